@@ -1,5 +1,5 @@
-//! Opens a blob and decodes its array, whose content is judged meanwhile: what the benchmark of content times. Told a
-//! number of rounds, it also prints how long decoding takes.
+//! Opens a blob and decodes its array, whose content is judged meanwhile: this is what the benchmark of content
+//! measures. Given a number of rounds, it also prints the time that decoding takes.
 #![tactic(auto)]
 
 use anyhow::{Context, Result, bail};
@@ -14,7 +14,7 @@ use bench_timing::print_least;
 use vx_type_wire::{DTypeExt, ExtSession};
 use vx_types::{DType, Id, Ids};
 
-/// The identifiers of a word, which a comma parts.
+/// The identifiers in a word, with a comma between them.
 fn ids_of(alloc: Global, word: &str) -> Result<ReadContext> {
     let mut ids = Ids::new(alloc);
     for id in word.split(',') {

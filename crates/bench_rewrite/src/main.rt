@@ -1,5 +1,5 @@
-//! Reads an array message from a file and writes its value to another: what the benchmarks of tables time.
-//! Told a number of rounds, it also prints how long reading and writing take.
+//! Reads an array message from a file and writes its value to another: this is what the benchmarks of tables measure.
+//! Given a number of rounds, it also prints the times of reading and writing.
 #![tactic(auto)]
 
 ghost use Rattle.vx_flat.specs.IsOf.{IsOf};

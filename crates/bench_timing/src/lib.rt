@@ -1,11 +1,11 @@
-//! What the programs that the benchmarks run share: the time that a job takes.
+//! The time that a job takes, for the programs that the benchmarks run.
 #![tactic(auto)]
 
 use anyhow::Result;
 use std::time::{CpuClock, Duration};
 
-/// Prints a job's name and the least processor time that it took over so many rounds, in
-/// microseconds. What a round makes is dropped before the next, outside its time.
+/// Prints a job's name and the least processor time of `rounds` runs, in microseconds. What a round makes is dropped
+/// before the next, outside its time.
 pub fn print_least<R: CpuClock + Print, T: Drop, F: FnMut() -> Result<T>>(
     rt: &R,
     name: &str,

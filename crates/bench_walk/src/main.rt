@@ -1,5 +1,5 @@
-//! Verifies an array message and walks over its value through views: what the benchmarks of tables time. Told a
-//! number of rounds, it also prints how long each takes.
+//! Verifies an array message and walks over its value through views: this is what the benchmarks of tables measure.
+//! Given a number of rounds, it also prints the time of each.
 #![tactic(auto)]
 
 mod walk;

@@ -6,8 +6,7 @@ ghost use Rattle.vx_serialized.specs.ArraySchema.{array_schema};
 use std::fmt;
 use vx_flat::{FieldKind, View, Width};
 
-/// What a walk sees: how many nodes there are, their numbers added up, and the lengths of their
-/// vectors added up. Sums wrap.
+/// What a walk counts: the nodes, the sum of their numbers, and the sum of the lengths of their vectors. Sums wrap.
 #[derive(Clone, Copy, Debug, Default, Drop)]
 pub struct Tally {
     nodes: u64,
@@ -16,27 +15,27 @@ pub struct Tally {
 }
 
 impl Tally {
-    /// One node more.
+    /// Counts a node.
     fn node(&mut self) {
         self.nodes = self.nodes.wrapping_add(1);
     }
 
-    /// One number more.
+    /// Adds a number.
     fn number(&mut self, number: u64) {
         self.numbers = self.numbers.wrapping_add(number);
     }
 
-    /// One number more, where it stands.
+    /// Adds a number, where there is one.
     fn opt_number(&mut self, number: Option<u64>) {
         self.number(number.unwrap_or(0));
     }
 
-    /// One vector more, of so many elements.
+    /// Adds the length of a vector.
     fn vector(&mut self, len: usize) {
         self.elements = self.elements.wrapping_add(len as u64);
     }
 
-    /// One vector of bytes more, where it stands.
+    /// Adds the length of a vector of bytes, where there is one.
     fn bytes(&mut self, bytes: Option<&[u8]>) {
         if let Some(bytes) = bytes {
             self.vector(bytes.len());
@@ -54,7 +53,7 @@ impl fmt::Display for Tally {
     }
 }
 
-/// What the statistics hold.
+/// Walks over statistics.
 fn walk_stats(stats: &View<'_>, tally: &mut Tally)
     requires { IsViewOf array_schema 2 stats.now }
 {
@@ -71,7 +70,7 @@ fn walk_stats(stats: &View<'_>, tally: &mut Tally)
     tally.opt_number(stats.opt_number_of(10, Width::Eight));
 }
 
-/// The numbers of a node's buffers.
+/// Walks over the numbers of a node's buffers.
 fn walk_buffers(node: &View<'_>, tally: &mut Tally)
     requires { IsViewOf array_schema 1 node.now }
 {
@@ -83,7 +82,7 @@ fn walk_buffers(node: &View<'_>, tally: &mut Tally)
     }
 }
 
-/// A node, and the nodes below it.
+/// Walks over a node, and the nodes below it.
 fn walk_node(node: &View<'_>, tally: &mut Tally)
     requires { IsViewOf array_schema 1 node.now }
 {
@@ -102,7 +101,7 @@ fn walk_node(node: &View<'_>, tally: &mut Tally)
     }
 }
 
-/// The descriptors of the message's buffers.
+/// Walks over the descriptors of the message's buffers.
 fn walk_descriptors(root: &View<'_>, tally: &mut Tally)
     requires { IsViewOf array_schema 0 root.now }
 {
@@ -117,7 +116,7 @@ fn walk_descriptors(root: &View<'_>, tally: &mut Tally)
     }
 }
 
-/// The nodes of a message, and the descriptors of its buffers.
+/// Walks over the nodes of a message, and the descriptors of its buffers.
 pub fn walk(root: &View<'_>) -> Tally
     requires { IsViewOf array_schema 0 root.now }
 {

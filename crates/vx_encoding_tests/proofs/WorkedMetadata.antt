@@ -9,7 +9,7 @@ use Rattle.vx_proto.specs.Written.{written, varint_bytes, counted}
 use Rattle.vx_wire_tree.specs.Fields as F
 use Rattle.vx_encodings.specs.Messages.{message_bytes}
 
--- An offset of 0, and the width or kind of the code 0, are the default, of which nothing is written.
+-- An offset of 0, and the width or kind of the code 0, are defaults, of which nothing is written.
 first_bit : message_bytes (F.bool 0) ≡ []
 unfolding written varint_bytes counted
 first_bit = refl

@@ -10,7 +10,7 @@ use vx_proto::{Message, ProtoError};
 use vx_scalars::DecimalValue;
 use vx_types::{DType, DecimalDType, DecimalType, Nullability};
 
-// An integer of a width whose highest byte is this, and whose other bytes are those.
+// Appends an integer of a width, whose highest byte is `high` and whose other bytes are `low`.
 fn push_edge(bytes: &mut Vec<u8>, width: usize, low: u8, high: u8) -> Result<(), AllocError> {
     for _ in 1..width {
         bytes.push(low)?;
@@ -36,7 +36,7 @@ fn ten_digits() -> Result<DecimalDType, ArrayError> {
     }
 }
 
-/// So many decimals of ten digits by integers of this width.
+/// `len` decimals of ten digits, by integers of this width.
 pub(crate) fn decimals(
     alloc: Global,
     bytes: &[u8],
@@ -145,12 +145,12 @@ fn rows_are_integers_of_each_width(rt: HostRuntime) {
 
 const SEVENS: [u8; 64] = [7; 64];
 
-// Those bytes, handed out here so that no other proof reads them.
+// These bytes, in a function so that no other proof reads them.
 fn sevens() -> &'static [u8] {
     &SEVENS
 }
 
-// Why so many decimals of a width are not made of 64 bytes, aligned to two to this exponent, if they are not.
+// The refusal of `len` decimals of a width in 64 bytes, aligned to 2^`exponent`, if they are refused.
 fn made_refusal(alloc: Global, width: DecimalType, exponent: u8, len: usize) -> Option<ArrayError> {
     decimals(alloc, sevens(), width, aligned_to(exponent), len).err()
 }
@@ -183,13 +183,13 @@ fn width_bytes(alloc: Global, width: DecimalType) -> Result<vx_proto::Blob, Prot
     DecimalMetadata { values_type: width }.encode_to_vec(alloc)
 }
 
-// The width that is read of bytes.
+// The width that is read from bytes.
 fn width_of(alloc: Global, bytes: &[u8]) -> Result<DecimalType, ProtoError> {
     let read = DecimalMetadata::decode(alloc, bytes)?;
     Ok(read.values_type)
 }
 
-// Whether a width is written as these bytes, and read of them.
+// Whether a width is written as these bytes, and read from them.
 fn is_width(alloc: Global, width: DecimalType, bytes: &[u8]) -> bool {
     match width_bytes(alloc, width) {
         Ok(written) => written.as_slice() == bytes && width_of(alloc, bytes) == Ok(width),
@@ -230,7 +230,7 @@ fn decimal_head(
     }
 }
 
-// Why five decimals are not planned, if they are not.
+// The refusal of a plan of five decimals, if it is refused.
 fn refusal(alloc: Global, metadata: &[u8], nchildren: usize) -> Option<EncodingError> {
     plan_refusal(
         alloc,
@@ -241,7 +241,7 @@ fn refusal(alloc: Global, metadata: &[u8], nchildren: usize) -> Option<EncodingE
 
 const HUNDREDS: [u8; 80] = [100; 80];
 
-// Those bytes, handed out here so that no other proof reads them.
+// These bytes, in a function so that no other proof reads them.
 fn hundreds() -> &'static [u8] {
     &HUNDREDS
 }

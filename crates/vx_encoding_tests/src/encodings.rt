@@ -66,7 +66,7 @@ fn plans_of(alloc: Global, encoding: Encoding, head: Head) -> Result<ChildPlans,
     plans
 }
 
-/// Why a node is not planned, if it is not.
+/// The refusal of a node's plan, if it is refused.
 pub(crate) fn plan_refusal(alloc: Global, encoding: Encoding, head: Head) -> Option<EncodingError> {
     plans_of(alloc, encoding, head).err()
 }
@@ -99,7 +99,7 @@ fn plans_have_at_most_a_validity(rt: HostRuntime) {
     assert!(rt; is_validity_planned(rt.alloc()) == Ok(true));
 }
 
-// Why a node of four rows, of this type, metadata and children, is not planned, if it is not.
+// The refusal of the plan of a node of four rows, of this type, metadata and children, if it is refused.
 fn refusal(
     alloc: Global,
     encoding: Encoding,
@@ -114,7 +114,7 @@ fn refusal(
     )
 }
 
-// The same of numbers.
+// The same for numbers.
 fn refusal_of_numbers(alloc: Global, dtype: DType, metadata: &[u8]) -> Option<EncodingError> {
     refusal(alloc, Encoding::Primitive, dtype, metadata, 0)
 }
@@ -129,7 +129,7 @@ fn plans_of_numbers_are_refused(rt: HostRuntime) {
     assert!(rt; with_metadata == Some(EncodingError::BadMetadata));
 }
 
-// A node without children, once it is planned without any.
+// A node without children, planned without any and then built.
 fn build_planned(
     alloc: Global,
     encoding: Encoding,
@@ -153,7 +153,7 @@ fn build_planned(
     Err(refused)
 }
 
-// The same, without readers of extensions, once its parts are made.
+// The same, without readers of extensions, if its parts were made.
 fn built(
     alloc: Global,
     encoding: Encoding,
@@ -176,7 +176,7 @@ fn fitting_metadata(alloc: Global, array: &Array) -> Result<Blob, EncodingError>
     }
 }
 
-// The same of an array that is built first.
+// The same for an array, if it was built.
 fn metadata_of(alloc: Global, built: Result<Array, EncodingError>) -> Result<Blob, EncodingError> {
     let array = built?;
     let bytes = fitting_metadata(alloc, &array);
@@ -196,7 +196,7 @@ pub(crate) fn is_built(
     Ok(bytes.as_slice() == metadata)
 }
 
-/// So many buffers of these bytes.
+/// `count` buffers of these bytes.
 pub(crate) fn buffers_of(
     alloc: Global,
     bytes: &[u8],
@@ -215,7 +215,7 @@ pub(crate) fn buffers_of(
     Ok(buffers)
 }
 
-// Whether so many integers are built of eight bytes of this alignment.
+// Whether `len` integers are built in eight bytes of this alignment.
 fn are_numbers_built(
     alloc: Global,
     len: usize,
@@ -241,13 +241,13 @@ fn offset_bytes(alloc: Global, offset: u32) -> Result<vx_proto::Blob, ProtoError
     copy.encode_to_vec(alloc)
 }
 
-// The offset that is read of bytes.
+// The offset that is read from bytes.
 fn offset_of(alloc: Global, bytes: &[u8]) -> Result<u32, ProtoError> {
     let read = BoolMetadata::decode(alloc, bytes)?;
     Ok(read.offset)
 }
 
-// Whether a copy of an offset is written as these bytes, and read of them.
+// Whether a copy of an offset is written as these bytes, and read from them.
 fn is_offset(alloc: Global, offset: u32, bytes: &[u8]) -> bool {
     match offset_bytes(alloc, offset) {
         Ok(written) => written.as_slice() == bytes && offset_of(alloc, bytes) == Ok(offset),
@@ -264,7 +264,7 @@ fn an_offset_is_one_number(rt: HostRuntime) {
     assert!(rt; is_offset(alloc, 8, &[8, 8]));
 }
 
-// Why four flags of this metadata and so many children are not planned, if they are not.
+// The refusal of the plan of four booleans with this metadata and number of children, if it is refused.
 fn flags_refusal(alloc: Global, metadata: &[u8], nchildren: usize) -> Option<EncodingError> {
     let flags = DType::Bool(Nullability::Nullable);
     refusal(alloc, Encoding::Bool, flags, metadata, nchildren)
@@ -291,7 +291,7 @@ fn plans_of_flags_are_refused(rt: HostRuntime) {
     }
 }
 
-// Whether so many flags of one byte are built, of this metadata.
+// Whether `len` booleans of one byte are built, with this metadata.
 fn are_flags_built(alloc: Global, metadata: &[u8], len: usize) -> Result<bool, EncodingError> {
     let buffers = buffers_of(alloc, &[0x2c], Alignment::none(), 1);
     let flags = DType::Bool(Nullability::NonNullable);
@@ -309,7 +309,7 @@ fn flags_are_built_of_an_offset_and_bits(rt: HostRuntime) {
     assert!(rt; are_flags_built(alloc, &[8, 5], 4) == unfit);
 }
 
-// Whether nulls are built of this type, metadata, children and so many buffers, without metadata.
+// Whether nulls are built with this type, metadata, children and number of buffers, and written without metadata.
 fn are_nulls_built(
     alloc: Global,
     dtype: DType,

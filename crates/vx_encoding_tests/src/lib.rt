@@ -1,5 +1,5 @@
-//! Tests of encodings: decimals, texts and bytes by offsets, nodes, and what arrays of each encoding tell: the names of
-//! their parts, statistics, and which arrays are equal. `proofs::WorkedMetadata` has the bytes of worked metadata, as the
+//! Tests of encodings: decimals, texts and bytes by offsets, nodes; and of arrays of each encoding: the names of their
+//! parts, statistics, and which arrays are equal. `proofs::WorkedMetadata` has the bytes of worked metadata, as the
 //! definitions compute them.
 #![tactic(auto)]
 

@@ -54,7 +54,7 @@ fn nullable_words(alloc: Global, bits: u8) -> Made {
     )
 }
 
-// Four words in a buffer of a greater alignment than they want.
+// Four words in a buffer of a greater alignment than they need.
 fn aligned_words(alloc: Global) -> Made {
     let values = buffer_of(alloc, &WORDS, aligned_to(4))?;
     PrimitiveArray::try_new(alloc, values, PType::I32, Nullability::NonNullable, 4, None)
@@ -65,13 +65,13 @@ fn words(alloc: Global, bytes: &[u8], kind: PType) -> Made {
     numbers(alloc, bytes, kind, 4)
 }
 
-// Four words of which the least is told.
+// Four words with a least value among their statistics.
 fn told_words(alloc: Global) -> Made {
     let made = words(alloc, &WORDS, PType::I32);
     answered(alloc, made, Stat::Min, PValue::I32(1), Ok(()))
 }
 
-// So many empty buffers.
+// `count` empty buffers.
 fn empty_buffers(alloc: Global, count: usize) -> Result<Vec<BufferHandle>, ArrayError> {
     let mut buffers = Vec::new(alloc);
     for _ in 0..count {
@@ -80,7 +80,7 @@ fn empty_buffers(alloc: Global, count: usize) -> Result<Vec<BufferHandle>, Array
     Ok(buffers)
 }
 
-// A text by a view, over so many empty buffers that it does not name.
+// A text by a view, over `count` empty buffers that it does not name.
 fn views(alloc: Global, count: usize) -> Made {
     let views = buffer_of(alloc, &LETTER, aligned_to(4));
     let (buffers, views) = both(empty_buffers(alloc, count), views)?;
@@ -116,7 +116,7 @@ fn are_alike(one: &Array, other: &Array) -> (bool, bool) {
     (equal, hash_of(one) == hash_of(other))
 }
 
-// The same of an array and another one that is made first.
+// The same for an array and another one, if that was made.
 fn alike(one: &Array, other: Made) -> Result<(bool, bool), ArrayError> {
     let other = other?;
     let alike = are_alike(one, &other);
@@ -124,7 +124,7 @@ fn alike(one: &Array, other: Made) -> Result<(bool, bool), ArrayError> {
     Ok(alike)
 }
 
-// The same of two arrays that are made first.
+// The same for two arrays, if they were made.
 fn compared(alloc: Global, one: Made, other: Sample) -> Result<(bool, bool), ArrayError> {
     let one = one?;
     let alike = alike(&one, made(alloc, other));
@@ -170,7 +170,7 @@ fn arrays_are_equal_by_what_is_compared(rt: HostRuntime) {
     }
 }
 
-// Buffers of these bytes, again and again.
+// `count` buffers of these bytes.
 fn buffers_of(alloc: Global, bytes: &[u8], count: usize) -> Result<BufferHandles, ArrayError> {
     let mut buffers = BufferHandles::new(alloc);
     for _ in 0..count {
@@ -179,7 +179,7 @@ fn buffers_of(alloc: Global, bytes: &[u8], count: usize) -> Result<BufferHandles
     Ok(buffers)
 }
 
-// The array with so many buffers of these bytes in the place of its own.
+// The array with `count` buffers of these bytes in place of its own.
 fn replaced(alloc: Global, sample: Sample, bytes: &[u8], count: usize) -> Made {
     let buffers = buffers_of(alloc, bytes, count);
     let (array, buffers) = both(made(alloc, sample), buffers)?;
@@ -200,7 +200,8 @@ fn answer(
     Ok(equal)
 }
 
-// Arrays and how many buffers of which bytes they get, with the array that is equal afterwards, or why they are refused.
+// Arrays, and the number and bytes of the buffers that replace theirs; the array that is equal afterwards, or the
+// refusal.
 const REPLACED: [(Sample, &[u8], usize, Sample, Option<ArrayError>); 16] = [
     (Sample::Words, &WORDS, 1, Sample::Words, None),
     (Sample::Words, &OTHERS, 1, Sample::OtherWords, None),

@@ -76,7 +76,7 @@ fn decimals(alloc: Global) -> Made {
     DecimalArray::try_new(alloc, values, DecimalType::I8, digits, MAYBE, 1, None)
 }
 
-// Whether an array that is made first is so named.
+// Whether an array, if it was made, has these names.
 fn is_made(alloc: Global, made: Made, buffer: &str) -> bool {
     match made {
         Ok(array) => {
@@ -97,7 +97,7 @@ fn has_offsets(alloc: Global, array: &Array) -> bool {
         && is_none(alloc, array, 1)
 }
 
-// Whether texts by offsets have those.
+// Whether texts by offsets have these.
 fn are_texts_named(alloc: Global) -> Result<bool, ArrayError> {
     let array = one_text(alloc)?;
     let named = has_offsets(alloc, &array);

@@ -19,7 +19,7 @@ fn tell(alloc: Global, array: &mut Array, stat: Stat, number: PValue) -> Result<
     array.set_all(set)
 }
 
-// The number that is told of a statistic, exactly.
+// The number of an exact statistic.
 fn told(array: &Array, stat: Stat) -> Option<PValue> {
     match array.statistics().get(stat) {
         Precision::Exact(ScalarValue::Primitive(number)) => Some(*number),
@@ -27,7 +27,7 @@ fn told(array: &Array, stat: Stat) -> Option<PValue> {
     }
 }
 
-/// An array that is made first, once it was given a number of one of its statistics with this answer.
+/// An array, if it was made, once it was given a number of one of its statistics with this result.
 pub(crate) fn answered(
     alloc: Global,
     made: Made,
@@ -43,7 +43,7 @@ pub(crate) fn answered(
     Err(ArrayError::BadContent)
 }
 
-/// The number that is told of a statistic of an array that is made first, exactly.
+/// The number of an exact statistic of an array, if that was made.
 pub(crate) fn told_of(made: Made, stat: Stat) -> Result<Option<PValue>, ArrayError> {
     let array = made?;
     let number = told(&array, stat);
@@ -56,7 +56,7 @@ fn pair(alloc: Global) -> Made {
     numbers(alloc, &[1, 2], PType::U8, 2)
 }
 
-// What is told of a statistic of the two, once they were given a number of it with this answer.
+// A statistic of the two, once they were given a number of it with this result.
 fn told_after(
     alloc: Global,
     stat: Stat,
@@ -66,7 +66,7 @@ fn told_after(
     told_of(answered(alloc, pair(alloc), stat, number, answer), stat)
 }
 
-// Statistics, each with a number of its type, and one of another.
+// Statistics, each with a number of its type, and one of another type.
 const NUMBERS: [(Stat, PValue, PValue); 5] = [
     (Stat::Min, PValue::U8(1), PValue::U16(1)),
     (Stat::Max, PValue::U8(2), PValue::I8(2)),
@@ -90,7 +90,7 @@ fn a_statistic_is_of_its_type(rt: HostRuntime) {
     }
 }
 
-// Two numbers of which the least is told, after another least value was refused.
+// Two numbers with a least value, after another least value was refused.
 fn least_told(alloc: Global) -> Made {
     let told = answered(alloc, pair(alloc), Stat::Min, PValue::U8(1), Ok(()));
     let refused = Err(ScalarError::BadScalar);
@@ -102,12 +102,12 @@ fn least_replaced(alloc: Global) -> Made {
     answered(alloc, least_told(alloc), Stat::Max, PValue::U8(2), Ok(()))
 }
 
-// How many statistics are told of an array.
+// The number of statistics of an array.
 fn told_count(array: &Array) -> usize {
     array.statistics().iter().count()
 }
 
-// Whether nothing is told of an array that is made first.
+// Whether an array, if it was made, has no statistics.
 fn is_untold(made: Made) -> bool {
     match made {
         Ok(array) => {

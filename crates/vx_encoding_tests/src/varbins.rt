@@ -1,5 +1,5 @@
-//! Tests of texts and bytes by offsets: their rows, which arrays are made, the cells that a row takes, and their nodes on
-//! the wire.
+//! Tests of texts and bytes by offsets: their rows, which arrays are made, the cells that a row takes, and their nodes
+//! on the wire.
 
 use crate::encodings::{head_of, plan_refusal};
 use std::alloc::Global;
@@ -44,7 +44,7 @@ fn made_with(
     VarBinArray::try_new(alloc, dtype_of(rows), offsets, bytes, validity)
 }
 
-// Rows of as many offsets of a kind as their bytes hold.
+// Rows of as many offsets of a kind as these bytes hold.
 fn made(alloc: Global, rows: Rows, kind: PType, offsets: &[u8], bytes: &[u8]) -> Made {
     let offsets = numbers(alloc, offsets, kind, offsets.len() / kind.byte_width());
     made_with(alloc, rows, offsets, bytes, Ok(None))
@@ -91,7 +91,7 @@ fn rows_are_parted_by_offsets(rt: HostRuntime) {
     assert!(rt; are_rows(rt.alloc(), Rows::Bytes) == Ok(true));
 }
 
-// Why three bytes are not split by offsets of a kind, if they are not.
+// The refusal of three bytes by offsets of a kind, if they are refused.
 fn refusal(alloc: Global, kind: PType, offsets: &[u8]) -> Option<ArrayError> {
     made(alloc, Rows::Bytes, kind, offsets, b"abc").err()
 }
@@ -132,7 +132,7 @@ fn offsets_never_fall_and_end_within_the_bytes(rt: HostRuntime) {
     }
 }
 
-// The validity of two rows with these bits, where there are any.
+// The validity of two rows with these bits, if there are any.
 fn validity(alloc: Global, bits: Option<u8>) -> Result<Option<Array>, ArrayError> {
     match bits {
         None => Ok(None),
@@ -140,13 +140,13 @@ fn validity(alloc: Global, bits: Option<u8>) -> Result<Option<Array>, ArrayError
     }
 }
 
-// Two rows of a byte each, with a validity where there are bits of it.
+// Two rows of a byte each, with a validity if there are bits for it.
 fn two_rows(alloc: Global, rows: Rows, bytes: &[u8], bits: Option<u8>) -> Made {
     let offsets = numbers(alloc, &[0, 1, 2], PType::U8, 3);
     made_with(alloc, rows, offsets, bytes, validity(alloc, bits))
 }
 
-// Why they are not made, if they are not.
+// The refusal of these rows, if they are refused.
 fn content_refusal(
     alloc: Global,
     rows: Rows,
@@ -177,14 +177,14 @@ fn texts_are_judged_where_rows_are_there(rt: HostRuntime) {
     }
 }
 
-// One row of so many bytes.
+// One row of `len` bytes.
 fn one_row(alloc: Global, len: u16) -> Result<Array, ArrayError> {
     let bytes = vec![in alloc; 7; len as usize]?;
     let ends = [0, 0, (len % 256) as u8, (len / 256) as u8];
     made(alloc, Rows::Bytes, PType::U16, &ends, bytes.as_slice())
 }
 
-// Why it is not given for so many cells, if it is not.
+// The refusal of this row with a budget of cells, if it is refused.
 fn row_refusal(alloc: Global, len: u16, budget: u64) -> Option<ArrayError> {
     let (_, value) = row_of(alloc, one_row(alloc, len), 0, budget);
     value.err()
@@ -216,13 +216,13 @@ fn kind_bytes(alloc: Global, kind: PType) -> Result<vx_proto::Blob, ProtoError> 
     .encode_to_vec(alloc)
 }
 
-// The kind that is read of bytes.
+// The kind that is read from bytes.
 fn kind_of(alloc: Global, bytes: &[u8]) -> Result<PType, ProtoError> {
     let read = VarBinMetadata::decode(alloc, bytes)?;
     Ok(read.offsets_ptype)
 }
 
-// Whether a kind is written as these bytes, and read of them.
+// Whether a kind is written as these bytes, and read from them.
 fn is_kind(alloc: Global, kind: PType, bytes: &[u8]) -> bool {
     match kind_bytes(alloc, kind) {
         Ok(written) => written.as_slice() == bytes && kind_of(alloc, bytes) == Ok(kind),
@@ -246,7 +246,7 @@ fn a_kind_of_offsets_is_one_code(rt: HostRuntime) {
     }
 }
 
-// Why two texts of this metadata and so many children are not planned, if they are not.
+// The refusal of the plan of two texts with this metadata and number of children, if it is refused.
 fn texts_refusal(alloc: Global, metadata: &[u8], nchildren: usize) -> Option<EncodingError> {
     let head = head_of(alloc, dtype_of(Rows::Texts), 2, metadata, nchildren);
     plan_refusal(alloc, Encoding::VarBin, head)

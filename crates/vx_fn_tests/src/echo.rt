@@ -6,8 +6,8 @@ use std::alloc::Global;
 use vx_fn_wire::{AggregateFn, AggregateFnPlugin, PlainAggregateFnPlugin, PluginError};
 use vx_types::{Blob, DType, Id};
 
-/// Gives a function of an identifier, which may be another than its own, with the metadata as its
-/// options; it refuses all metadata where it has none to give.
+/// A plugin that makes a function of an identifier, which may be another than its own, with the metadata as its
+/// options. It refuses all metadata where it has no such identifier.
 #[derive(Drop)]
 pub struct Echo {
     pub id: Id,
@@ -40,7 +40,7 @@ impl PlainAggregateFnPlugin for Echo {
     }
 }
 
-/// Tells zones of rows of each type apart by the function of its identifier, without options.
+/// A plugin that tells zones of rows of each type apart by the function of its identifier, without options.
 #[derive(Drop)]
 pub struct Zoned {
     pub id: Id,

@@ -21,7 +21,7 @@ fn pairing(alloc: Global) -> Result<Box<Pairing>, FnWireError> {
     Ok(Box::new(alloc, Pairing { id })?)
 }
 
-// The functions of rows that are known: it alone.
+// A session of functions of rows that knows this pairing alone.
 fn scalars(alloc: Global) -> Result<ScalarFnSession, FnWireError> {
     let plugin = pairing(alloc)?;
     let mut scalars = ScalarFnSession::new(alloc);
@@ -29,7 +29,7 @@ fn scalars(alloc: Global) -> Result<ScalarFnSession, FnWireError> {
     Ok(scalars)
 }
 
-// A session that knows it.
+// A session that knows the pairing.
 fn session(alloc: Global, unknown: bool) -> Result<FnSession, FnWireError> {
     Ok(FnSession {
         scalars: scalars(alloc)?,
@@ -46,7 +46,7 @@ fn is_written(alloc: Global, expression: &Expression, bytes: &[u8]) -> bool {
     }
 }
 
-// Whether bytes are read as an expression of this text, which is written as these.
+// Whether bytes are read as an expression of this text, which is written as the bytes `again`.
 fn is_read(alloc: Global, bytes: &[u8], text: &str, again: &[u8], session: &FnSession) -> bool {
     match Expression::from_proto_bytes(alloc, bytes, session) {
         Ok(expression) => {
@@ -56,7 +56,7 @@ fn is_read(alloc: Global, bytes: &[u8], text: &str, again: &[u8], session: &FnSe
     }
 }
 
-// The same under a session that allows what it does not know.
+// The same under a session that allows unknown functions.
 fn is_row(alloc: Global, bytes: &[u8], text: &str, again: &[u8]) -> bool {
     match session(alloc, true) {
         Ok(session) => is_read(alloc, bytes, text, again, &session),
@@ -92,7 +92,7 @@ fn read_calls(rt: HostRuntime) {
     assert!(rt; is_row(alloc, bytes, "x.g(a(), b())", again));
 }
 
-// Why bytes are no expression under such a session.
+// The refusal of bytes under such a session.
 fn refusal(alloc: Global, bytes: &[u8], unknown: bool) -> Option<FnWireError> {
     match session(alloc, unknown) {
         Ok(session) => Expression::from_proto_bytes(alloc, bytes, &session).err(),
@@ -141,13 +141,13 @@ fn is_too_deep_called(alloc: Global, bytes: &[u8]) -> bool {
     }
 }
 
-// The bytes of an expression of a hundred levels.
+// The bytes of an expression of 100 levels.
 fn deepest(alloc: Global) -> Result<Blob, FnWireError> {
     let expression = deep(alloc, 100)?;
     expression.to_proto_bytes(alloc)
 }
 
-// Whether bytes are read as an expression that is written as they are.
+// Whether bytes are read as an expression that is written as the same bytes.
 fn come_back(alloc: Global, bytes: &[u8], session: &FnSession) -> bool {
     match Expression::from_proto_bytes(alloc, bytes, session) {
         Ok(expression) => is_written(alloc, &expression, bytes),
@@ -155,7 +155,7 @@ fn come_back(alloc: Global, bytes: &[u8], session: &FnSession) -> bool {
     }
 }
 
-// Whether the bytes of a hundred levels come back under a session, and the call of `x` on them is too deep.
+// Whether the bytes of 100 levels come back under a session, and the call of `x` on them is too deep.
 fn is_deepest(alloc: Global, session: &FnSession) -> bool {
     match deepest(alloc) {
         Ok(bytes) => {
@@ -181,7 +181,7 @@ fn of_message(alloc: Global, bytes: &[u8], session: &FnSession) -> Result<Expres
     Expression::from_proto(alloc, &message, session)
 }
 
-// What an expression is read as once it was written as a message.
+// What an expression is read as once it is written as a message.
 fn again(
     alloc: Global,
     expression: &Expression,
@@ -191,7 +191,7 @@ fn again(
     deserialize_expr_proto(alloc, &message, session)
 }
 
-// Whether it is then written as these bytes.
+// Whether that is written as these bytes.
 fn is_again(alloc: Global, read: &Expression, bytes: &[u8], session: &FnSession) -> bool {
     match again(alloc, read, session) {
         Ok(expression) => is_written(alloc, &expression, bytes),

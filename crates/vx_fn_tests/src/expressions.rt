@@ -14,7 +14,7 @@ fn two(alloc: Global) -> Result<Expressions, FnWireError> {
     Ok(children)
 }
 
-// The call of a function on these.
+// The call of a function on these two, with these options.
 fn pair(alloc: Global, options: Option<Blob>) -> Result<Expression, FnWireError> {
     let function = named(alloc, options)?;
     call(function, two(alloc)?)
@@ -26,7 +26,7 @@ fn pair_with_options(alloc: Global) -> Result<Expression, FnWireError> {
     pair(alloc, Some(options))
 }
 
-// Whether an expression that is made first has this text.
+// Whether the expression has this text, if it was made.
 fn has_text(alloc: Global, made: Result<Expression, FnWireError>, text: &str) -> bool {
     match made {
         Ok(expression) => prints(alloc, &expression, text),
@@ -44,7 +44,7 @@ fn texts(rt: HostRuntime) {
     assert!(rt; has_text(alloc, pair(alloc, None), expected));
 }
 
-// Whether bytes are read as a message that is written as they are.
+// Whether bytes are read as a message that is written as the same bytes.
 fn come_back(alloc: Global, bytes: &[u8]) -> Result<bool, FnWireError> {
     let read = pb::Expr::decode(alloc, bytes)?;
     let again = read.encode_to_vec(alloc)?;
@@ -59,8 +59,7 @@ fn has_bytes(alloc: Global, expression: &Expression, bytes: &[u8]) -> bool {
     }
 }
 
-// Whether an expression that is made first is written as these bytes, which are the message that they are
-// read as.
+// Whether the expression, if it was made, is written as these bytes, which are the message that they are read as.
 fn is_written(alloc: Global, made: Result<Expression, FnWireError>, bytes: &[u8]) -> bool {
     match made {
         Ok(expression) => {
@@ -86,7 +85,7 @@ fn messages(rt: HostRuntime) {
     assert!(rt; is_written(alloc, pair_with_options(alloc), BOTH));
 }
 
-// Whether an expression can be written, and why it is not.
+// Whether an expression can be written, and the refusal if it is not.
 fn refusal(alloc: Global, expression: &Expression) -> (bool, Option<FnWireError>) {
     (
         expression.is_serializable(),
@@ -94,7 +93,7 @@ fn refusal(alloc: Global, expression: &Expression) -> (bool, Option<FnWireError>
     )
 }
 
-// The same of one that is made first, or None.
+// The same for the expression, if it was made.
 fn refusal_of(
     alloc: Global,
     made: Result<Expression, FnWireError>,

@@ -11,7 +11,7 @@ use vx_fn_wire::{
 use vx_proto::Message;
 use vx_types::{Blob, Id};
 
-// Whether a call of a function of this arity may have so many children, from none on.
+// Whether a call of a function of this arity may have 0, 1, 2 and 3 children.
 fn admits(arity: Arity, rows: [bool; 4]) -> bool {
     arity.admits(0) == rows[0]
         && arity.admits(1) == rows[1]
@@ -42,7 +42,7 @@ fn are_alike<T: Hash>(one: &T, other: &T) -> bool {
     *one == *other && hash_of(one) == hash_of(other)
 }
 
-// Options of a foreign function of so many children.
+// Options of a foreign function of this arity.
 fn options_of(alloc: Global, arity: usize) -> Result<ForeignScalarFnOptions, FnWireError> {
     Ok(ForeignScalarFnOptions::new(metadata(alloc)?, arity))
 }
@@ -55,7 +55,7 @@ fn are_copied(alloc: Global, options: &ForeignScalarFnOptions) -> bool {
     }
 }
 
-// Whether options of another arity are others.
+// Whether options of another arity are not equal.
 fn are_told_apart(alloc: Global, options: &ForeignScalarFnOptions) -> bool {
     match options_of(alloc, 2) {
         Ok(others) => others != *options,

@@ -20,26 +20,26 @@ fn session(alloc: Global, unknown: bool) -> FnSession {
     }
 }
 
-// The plugin of `x.f`, and gives this of it.
+// The plugin of `x.f`, which makes functions of the identifier `gives`.
 fn echo(alloc: Global, gives: Option<Id>) -> Result<Box<Echo>, FnWireError> {
     let id = id_of(alloc, "x.f")?;
     Ok(Box::new(alloc, Echo { id, gives })?)
 }
 
-// The same that gives a function of this identifier.
+// The same, for an identifier of this text.
 fn echo_of(alloc: Global, text: &str) -> Result<Box<Echo>, FnWireError> {
     let id = id_of(alloc, text)?;
     echo(alloc, Some(id))
 }
 
-// The functions of such a plugin alone.
+// A session of this plugin alone.
 fn aggregates(alloc: Global, plugin: Box<Echo>) -> Result<AggregateFnSession, FnWireError> {
     let mut aggregates = AggregateFnSession::new(alloc);
     aggregates.register(plugin)?;
     Ok(aggregates)
 }
 
-// A session that knows `x.f`, and gives this of it, if anything.
+// A session that knows `x.f`, whose plugin makes functions of the identifier `gives`, if it is not empty.
 fn echoing(alloc: Global, gives: &str) -> Result<FnSession, FnWireError> {
     let plugin = if gives.is_empty() {
         echo(alloc, None)?
@@ -73,7 +73,7 @@ fn is_written(alloc: Global, function: &AggregateFn, bytes: &[u8]) -> bool {
     }
 }
 
-// Whether the function that bytes are read as is written as the others, or why they are none.
+// Whether the function that bytes are read as is written as the bytes `expected`, or the refusal of the bytes.
 fn again(
     alloc: Global,
     bytes: &[u8],
@@ -95,7 +95,7 @@ fn unregistered(rt: HostRuntime) {
     assert!(rt; refused == Err(FnWireError::BadMessage));
 }
 
-// The same under a session that knows `x.f`, and gives this of it, if anything.
+// The same under a session that knows `x.f`, whose plugin makes functions of the identifier `gives`.
 fn echoed(alloc: Global, gives: &str, bytes: &[u8], expected: &[u8]) -> Result<bool, FnWireError> {
     let session = echoing(alloc, gives)?;
     again(alloc, bytes, &session, expected)
@@ -144,7 +144,7 @@ fn text_of(zones: &Option<AggregateFn>) -> &str {
     }
 }
 
-// Whether the plugin that stands at an identifier gives this function for zones, or none.
+// Whether the plugin at an identifier gives this function for zones, or none.
 fn tells(alloc: Global, functions: &AggregateFnSession, at: &Id, zones: &str) -> bool {
     let Some(plugin) = functions.registry().get(at) else {
         return false;
@@ -155,14 +155,14 @@ fn tells(alloc: Global, functions: &AggregateFnSession, at: &Id, zones: &str) ->
     }
 }
 
-// The same of the functions of which this one was registered last.
+// The same with the functions of which this one was registered last.
 fn zones_at(alloc: Global, last: &str, at: &str, zones: &str) -> Result<bool, FnWireError> {
     let functions = zoning(alloc, last)?;
     let id = id_of(alloc, at)?;
     Ok(tells(alloc, &functions, &id, zones))
 }
 
-// Which was registered last, where a plugin is looked up, its function for zones, and whether it is so.
+// What was registered last, where a plugin is looked up, its function for zones, and whether that is right.
 const ZONES: [(&str, &str, &str, bool); 5] = [
     ("x.h", "x.f", "", true),
     ("x.h", "x.g", "x.g", true),

@@ -13,7 +13,7 @@ pub fn prints<T: Display>(alloc: Global, value: &T, text: &str) -> bool {
     }
 }
 
-/// What a call of types made, whose one refusal is allocation failure.
+/// The result of a call of types, whose only refusal is `OutOfMemory`.
 pub fn or_memory<T: Drop>(made: Result<T, TypeError>) -> Result<T, FnWireError> {
     match made {
         Ok(value) => Ok(value),
@@ -26,12 +26,12 @@ pub fn id_of(alloc: Global, text: &str) -> Result<Id, FnWireError> {
     or_memory(Id::new(alloc, text))
 }
 
-/// The metadata of the foreign functions of the rows.
+/// The metadata of the foreign functions in these tests.
 pub fn metadata(alloc: Global) -> Result<Blob, FnWireError> {
     or_memory(Blob::copy_from(alloc, b"\x01\x02\x03\x04"))
 }
 
-/// The foreign function of the rows, whose calls have one child.
+/// The foreign function in these tests, whose calls have one child.
 pub fn foreign(alloc: Global) -> Result<ScalarFn, FnWireError> {
     let id = id_of(alloc, "vortex.test.foreign_scalar_fn")?;
     ForeignScalarFnVTable::make_scalar_fn(alloc, id, metadata(alloc)?, 1)
@@ -65,7 +65,7 @@ pub fn named(alloc: Global, options: Option<Blob>) -> Result<ScalarFn, FnWireErr
     Ok(named_as(id, text, first, options))
 }
 
-/// The call of a function on these, where it may have so many.
+/// The call of a function on these children, if its arity admits their number.
 pub fn call(function: ScalarFn, children: Expressions) -> Result<Expression, FnWireError> {
     if !function.arity.admits(children.len()) {
         return Err(FnWireError::ArityMismatch);
@@ -86,7 +86,7 @@ pub fn over(alloc: Global, child: Expression) -> Result<Expression, FnWireError>
     call(foreign(alloc)?, children)
 }
 
-/// A chain of foreign calls of so many levels, the root counted.
+/// A chain of foreign calls of `levels` levels, the root counted.
 pub fn deep(alloc: Global, levels: u32) -> Result<Expression, FnWireError> {
     let mut expression = Expression::Root;
     for _ in 1..levels {

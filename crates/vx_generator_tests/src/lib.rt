@@ -1,4 +1,4 @@
-//! Tests of the tables that a number tells.
+//! Tests of tables that are drawn from a seed.
 #![tactic(auto)]
 
 #[cfg(test)]

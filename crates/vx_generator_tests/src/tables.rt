@@ -1,4 +1,4 @@
-//! Tables of few rows, beside what another program drew.
+//! Tables of few rows, compared with what another program drew.
 
 use std::alloc::Global;
 use vx_arrays::RowValue;
@@ -82,7 +82,7 @@ fn row_holds(
     }
 }
 
-// The same of a row of the table of a seed.
+// The same for a row of the table of a seed.
 fn tells(
     alloc: Global,
     source: (u64, usize, usize),
@@ -123,7 +123,7 @@ fn a_number_may_be_null(rt: HostRuntime) {
     assert!(rt; tells(alloc, (u64::MAX, 3, 2), None, "cedar", &few));
 }
 
-// A seed, how many rows its table has, and how many bytes the table's buffers.
+// A seed, the number of rows of its table, and the total length of the table's buffers.
 const SIZES: [(u64, usize, u64); 5] = [
     (0, 1, 121),
     (7, 0, 105),
@@ -132,12 +132,12 @@ const SIZES: [(u64, usize, u64); 5] = [
     (u64::MAX, 3, 155),
 ];
 
-// How many rows a table has, and how many bytes its buffers.
+// The number of a table's rows, and the total length of its buffers.
 fn sizes_of(table: &Table) -> (usize, u64) {
     (table.array.len(), table.data_len)
 }
 
-// The same of the table of a seed.
+// The same for the table of a seed.
 fn sizes(alloc: Global, seed: u64, rows: usize) -> Option<(usize, u64)> {
     match table(alloc, seed, rows) {
         Some(table) => {
@@ -158,7 +158,7 @@ fn the_bytes_of_the_buffers_are_counted(rt: HostRuntime) {
     }
 }
 
-// Whether a table is equal to that of a seed.
+// Whether a table is equal to that of another seed.
 fn is_of(alloc: Global, table: &Table, seed: u64) -> Option<bool> {
     match hundred(alloc, seed) {
         Some(other) => {
@@ -170,7 +170,7 @@ fn is_of(alloc: Global, table: &Table, seed: u64) -> Option<bool> {
     }
 }
 
-// The table of a hundred rows of a seed.
+// The table of 100 rows of a seed.
 fn hundred(alloc: Global, seed: u64) -> Option<Table> {
     table(alloc, seed, 100)
 }

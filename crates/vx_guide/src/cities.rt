@@ -7,18 +7,19 @@ use duriancards::dtype::{DTypes, Name, Names, StructFields};
 use duriancards::prelude::{Array, Arrays, Nullability};
 use std::alloc::Global;
 
-// Of the second city nothing is known.
+// The population of the second city is not known: it is null.
 fn people(alloc: Global) -> Result<Array> {
     numbers_or_null(alloc, &[3769, 0, 1897], 0b101)
 }
 
-// The rows name their country by its place among two texts.
+// A dictionary: the rows name their country by its place among two texts.
 fn countries(alloc: Global) -> Result<Array> {
     let codes = small_numbers(alloc, &[0, 1, 0])?;
     Ok(DictArray::try_new(alloc, codes, texts(alloc, "DEFR", &[0, 2, 4])?, true)?)
 }
 
-// The lines of all cities one after the other, and where those of each begin and the last end.
+// The lines of all cities one after the other, and the offsets: where the lines of each city begin, and where the last
+// end.
 fn lines(alloc: Global) -> Result<Array> {
     let elements = small_numbers(alloc, &[1, 2, 7])?;
     let offsets = small_numbers(alloc, &[0, 2, 2, 3])?;

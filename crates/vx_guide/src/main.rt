@@ -1,5 +1,5 @@
-//! A guide to the library that runs: a table of cities is made, written as a blob, looked at without being decoded, decoded
-//! and printed; then two blobs are refused. docs/LIBRARY.md walks through it.
+//! A guide to the library, as a program: it makes a table of cities, writes it as a blob, looks at the blob without
+//! decoding it, decodes it and prints it; then two blobs are refused. docs/LIBRARY.md walks through it.
 #![tactic(auto)]
 
 mod cities;
@@ -16,14 +16,14 @@ use duriancards::prelude::{
 use duriancards::serde::SerializedNode;
 use std::alloc::Global;
 
-/// The bytes of a blob, and the identifiers that its numbers count in.
+/// The bytes of a blob, and the identifiers that its nodes name by number.
 #[derive(Drop)]
 struct Written {
     blob: ByteBuffer,
     ids: ReadContext,
 }
 
-/// Writes an array: the identifiers are those that an empty context takes.
+/// Writes an array. An empty context takes its identifiers, so it numbers those of this array alone.
 fn write(alloc: Global, array: &Array, session: &VortexSession) -> Result<Written> {
     let mut ctx = ArrayContext::empty(alloc);
     let options = SerializeOptions::default();
@@ -33,7 +33,7 @@ fn write(alloc: Global, array: &Array, session: &VortexSession) -> Result<Writte
     Ok(Written { blob, ids })
 }
 
-/// Prints what a node tells of itself: its encoding, by the number that the identifiers give a name, and its parts.
+/// Prints a node: its encoding, by the identifier of its number, and its parts.
 fn print_node(rt: &impl Print, node: &SerializedNode<'_>, ids: &ReadContext) -> Result<()> {
     let Some(id) = ids.resolve(node.encoding_id()) else {
         bail!("no identifier has this number");
@@ -43,7 +43,7 @@ fn print_node(rt: &impl Print, node: &SerializedNode<'_>, ids: &ReadContext) -> 
     Ok(())
 }
 
-/// Prints the root of a blob and the nodes right below it. Nothing is decoded, and no memory is taken for it.
+/// Prints the root of a blob and the nodes right below it. Nothing is decoded, so this takes no memory.
 fn look(rt: &impl Print, serialized: &SerializedArray, ids: &ReadContext) -> Result<()> {
     let root = serialized.root();
     print_node(rt, &root, ids)?;
@@ -66,7 +66,7 @@ fn read(
     print_rows(rt, alloc, &array)
 }
 
-/// Asks for four rows of a blob of three, and prints why there are none.
+/// Asks for four rows of a blob of three, and prints the refusal.
 fn refuse_rows(
     rt: &impl Print,
     alloc: Global,
@@ -82,7 +82,7 @@ fn refuse_rows(
     Ok(())
 }
 
-/// Opens a blob without its last byte, and prints why it is none.
+/// Opens a blob without its last byte, and prints the refusal.
 fn refuse_bytes(rt: &impl Print, alloc: Global, blob: &ByteBuffer) -> Result<()> {
     let cut = blob.slice(alloc, 0..blob.len().saturating_sub(1))?;
     match SerializedArray::try_from_buffer(alloc, cut) {
@@ -92,7 +92,7 @@ fn refuse_bytes(rt: &impl Print, alloc: Global, blob: &ByteBuffer) -> Result<()>
     Ok(())
 }
 
-/// Prints what a blob tells: its nodes, its rows, and why it has not one row more.
+/// Prints what a blob holds: its nodes, its rows, and the refusal of one row more.
 fn show(
     rt: &impl Print,
     alloc: Global,
@@ -106,7 +106,7 @@ fn show(
     refuse_rows(rt, alloc, serialized, dtype, ids, session)
 }
 
-/// Opens a blob of a type, and prints what it tells.
+/// Opens a blob of a type, and prints what it holds.
 fn open(
     rt: &impl Print,
     alloc: Global,
@@ -119,7 +119,7 @@ fn open(
     show(rt, alloc, &serialized, dtype, &ids, session)
 }
 
-/// Writes the table, prints how long its blob is and why a shorter one is none, and opens it.
+/// Writes the table, prints the length of its blob and why a shorter one is refused, and opens it.
 fn tell(rt: &impl Print, alloc: Global, table: &Array, session: &VortexSession) -> Result<()> {
     let written = write(alloc, table, session)?;
     rt.println(format_args!("{} bytes", written.blob.len()))?;

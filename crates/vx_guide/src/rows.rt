@@ -6,7 +6,7 @@ use duriancards::dtype::PValue;
 use duriancards::prelude::{Array, RowValue};
 use std::alloc::{AllocError, Global};
 
-// A row may take as many values as this, the parts of its parts counted too.
+// The budget of a row: the most values that it may take, the values in its values counted too.
 const BUDGET: u64 = 100;
 
 // A number.

@@ -10,7 +10,7 @@ use Rattle.vx_proto.proofs.LawsOfParts.{Parts, Both, InRange, ◌and◌, nothing
 abbrev pub bool_lists : Schema
 bool_lists = (plain 1 Uint32 ∷ []) ∷ []
 
--- How its slots are values.
+-- Its slots as values.
 abbrev pub bool_parts : Parts (HasForm bool_lists) (list_at bool_lists 0) (ℕ × Unit {0}) (Both (InRange (numbers Uint32 tt)) (λ _. Unit {0}))
 bool_parts = plain_part 1 (numbers Uint32 tt) and nothing
 

@@ -4,7 +4,7 @@ use Rattle.vx_proto.specs.declared.schema.ScalarKind.TheVariants.{Uint32, Uint64
 use Rattle.vx_proto.specs.declared.schema.Kind.TheVariants.{Scalar, Message}
 use Rattle.vx_proto.specs.Schema.{Schema, plain, optional, oneof, repeated, nested, field}
 
--- A field of each kind, each optional: so what stands is written, at its default too.
+-- A field of each kind, each optional: a field that is there is written at its default, too.
 abbrev pub kinds : Schema
 kinds =
     (optional 1 Uint32 ∷ optional 2 Uint64 ∷ optional 3 Int32 ∷ optional 4 Flag ∷ optional 5 (Enum 11) ∷ optional 6 Fixed32 ∷ optional 7 Fixed64 ∷ optional 8 String ∷ optional 9 Bytes
@@ -28,15 +28,15 @@ scalars =
     ∷ (plain 1 Uint32 ∷ nested 2 0 ∷ [])
     ∷ []
 
--- The metadata of a dictionary, of which the list's is the front.
+-- The metadata of a dictionary, which begins like that of a list.
 abbrev pub dictionaries : Schema
 dictionaries = (plain 1 Uint32 ∷ plain 2 (Enum 11) ∷ optional 3 Flag ∷ optional 4 Flag ∷ []) ∷ []
 
--- An expression: an identifier, children, and metadata that may stand.
+-- An expression: an identifier, children, and optional metadata.
 abbrev pub expressions : Schema
 expressions = (plain 1 String ∷ repeated 2 (Message 0) ∷ optional 3 Bytes ∷ []) ∷ []
 
--- A function over many values: an identifier, and metadata that may stand.
+-- A function over many values: an identifier, and optional metadata.
 abbrev pub aggregates : Schema
 aggregates = (plain 1 String ∷ optional 2 Bytes ∷ []) ∷ []
 

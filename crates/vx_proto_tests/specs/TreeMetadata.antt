@@ -20,7 +20,7 @@ tree_part = nested_part 1 0 (λ v. v) (HasForm trees 0)
     (λ v f. (v, refl, (same_form trees ((nested 1 0 ∷ []) ∷ []) 0 v refl (omega arith)).1 f))
     (λ v w e. e)
 
--- How its slots are values.
+-- Its slots as values.
 abbrev pub tree_metadata_parts : Parts (HasForm tree_metadata_lists) (list_at tree_metadata_lists 1) (Option Value × Unit {0}) (Both (IfStands (HasForm trees 0)) (λ _. Unit {0}))
 tree_metadata_parts = tree_part and nothing
 

@@ -75,8 +75,8 @@ fn trees_in_metadata(rt: HostRuntime) -> Result<(), Fail> {
     Ok(())
 }
 
-/// A chain of 100 trees, as bytes; one more is past the limit on reading, and so it is on writing
-/// where metadata holds the chain.
+/// A chain of 100 trees, as bytes. One more is past the limit on reading, and the chain is past that on writing where
+/// metadata holds it.
 #[test]
 fn deepest_tree(rt: HostRuntime) -> Result<(), Fail> {
     let alloc = rt.alloc();

@@ -9,7 +9,7 @@ fn again<K: MessageKind>(alloc: Global, bytes: &[u8]) -> Result<Blob, ProtoError
     PlainMessage::<K>::decode(alloc, bytes)?.encode_to_vec(alloc)
 }
 
-/// Each row is read and written as the bytes beside it.
+/// Each row is read, and written as the bytes beside it.
 fn written<K: MessageKind>(rt: &impl Abort, alloc: Global, rows: &[(&[u8], &[u8])]) {
     for (bytes, wanted) in rows {
         let found = again::<K>(alloc, bytes);
@@ -31,7 +31,7 @@ fn kept<K: MessageKind>(rt: &impl Abort, alloc: Global, rows: &[&[u8]]) {
     }
 }
 
-/// Each row is refused, for this reason.
+/// Each row is refused with this refusal.
 fn refused<K: MessageKind>(rt: &impl Abort, alloc: Global, error: ProtoError, rows: &[&[u8]]) {
     for bytes in rows {
         let found = again::<K>(alloc, bytes);
@@ -84,7 +84,7 @@ fn kinds(rt: HostRuntime) {
             b"\x08\x80\x80\x80\x80\x10\x08\x01",
         ],
     );
-    // A flag that isn't 0 is true; of two numbers, texts and bytes the last wins; fields are written by number.
+    // A flag other than 0 is true; of two numbers, texts and bytes the last wins; fields are written by number.
     written::<Kinds>(
         &rt,
         rt.alloc(),
@@ -142,7 +142,7 @@ fn varints(rt: HostRuntime) {
 
 #[test]
 fn fields_by_wire_type(rt: HostRuntime) {
-    // Unknown fields of each wire type, and that of the greatest number, are skipped whole.
+    // Unknown fields of each wire type, and one of the greatest number, are skipped whole.
     written::<Kinds>(
         &rt,
         rt.alloc(),
@@ -157,7 +157,7 @@ fn fields_by_wire_type(rt: HostRuntime) {
             (b"\xf8\xff\xff\xff\x0f\x00", b""),
         ],
     );
-    // Wire types that are none; a known field with another one; a text that isn't UTF-8.
+    // Wire types that do not exist; a known field with another wire type; a text that is not UTF-8.
     refused::<Kinds>(
         &rt,
         rt.alloc(),
@@ -200,8 +200,8 @@ fn types(rt: HostRuntime) {
         rt.alloc(),
         &[(b"\x1a\x05\x08\x86\x80\x80\x00", b"\x1a\x02\x08\x06")],
     );
-    // A message twice, and two members of a oneof; a member that is no message; a number that the
-    // message's length cuts; a fault inside.
+    // A message twice, and two members of a oneof; a member that is no message; a number that the message's length
+    // cuts; a fault inside.
     refused::<Types>(
         &rt,
         rt.alloc(),
@@ -294,7 +294,7 @@ fn trees(rt: HostRuntime) {
     );
 }
 
-/// So many messages, each the one field of the one before, whose key is this byte.
+/// `count` messages, each the one field of the one before, whose key is this byte.
 pub fn nested(alloc: Global, key: u8, count: u32) -> Result<Vec<u8>, Fail> {
     let mut bytes = Vec::new(alloc);
     for _ in 1..count {

@@ -36,7 +36,7 @@ const KINDS: Schema = Schema {
     ]],
 };
 
-/// A field of each kind, each optional: so what stands is written, at its default too.
+/// A field of each kind, each optional: a field that is there is written at its default, too.
 #[derive(Debug)]
 pub struct Kinds;
 
@@ -201,7 +201,7 @@ const DICTIONARIES: Schema = Schema {
     ]],
 };
 
-/// The metadata of a dictionary, of which the list's is the front.
+/// The metadata of a dictionary, which begins like that of a list.
 #[derive(Debug)]
 pub struct Dictionaries;
 
@@ -231,7 +231,7 @@ const EXPRESSIONS: Schema = Schema {
     ]],
 };
 
-/// An expression: an identifier, children, and metadata that may stand.
+/// An expression: an identifier, children, and optional metadata.
 #[derive(Debug)]
 pub struct Expressions;
 
@@ -260,7 +260,7 @@ const AGGREGATES: Schema = Schema {
     ]],
 };
 
-/// A function over many values: an identifier, and metadata that may stand.
+/// A function over many values: an identifier, and optional metadata.
 #[derive(Debug)]
 pub struct Aggregates;
 

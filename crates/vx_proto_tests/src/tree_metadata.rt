@@ -1,5 +1,5 @@
-//! Metadata with a message in it, as metadata with a type in it has: the messages of the nested type
-//! come first in its schema, and its own after them.
+//! Metadata with a message in it, as metadata with a type in it has: the messages of the nested type come first in its
+//! schema, and its own after them.
 
 ghost use Rattle.std.specs.Prelude.{refl};
 ghost use Rattle.std.proofs.Common.{arith, ap};
@@ -12,7 +12,7 @@ use vx_proto::{
     take_message,
 };
 
-/// Metadata with a tree that may stand.
+/// Metadata with an optional tree.
 #[derive(Debug, Drop)]
 pub struct TreeMetadata {
     /// The tree.

@@ -1,4 +1,4 @@
--- A written blob tells buffers that begin at positions of their alignment.
+-- A written blob's buffers begin at positions of their alignment.
 use Rattle.std.proofs.Common.{ℕ, ◌≡◌, true, List, Some, ◌++◌, replicate, sym, ap, subst, arith}
 use Rattle.std.specs.Prelude.{All}
 use Rattle.vx_array_tree.specs.Tree.{Tree}

@@ -19,7 +19,7 @@ use Rattle.vx_wire_tree.proofs.Laws.{canon_written}
 use Rattle.vx_encodings.specs.Messages.{codec}
 use Rattle.vx_serde.specs.Sums.{canonical_head, sums_canonical, each_sums_canonical}
 
--- A node of whose statistics only a sum changes, over children of which the same holds.
+-- A node in whose statistics only a sum changes, over children of which the same holds.
 node_kept : (h : Head) (ts : Trees) → written_stats h.stats ≡ canonical_stats h.stats → each_stats_written ts ≡ each_sums_canonical ts → stats_written (node h ts) ≡ sums_canonical (node h ts)
 node_kept h ts own kids =
     let head : Stats → Head = λ x. record { dtype = h.dtype; len = h.len; stats = x; body = h.body } in
@@ -61,7 +61,7 @@ module _ (s : SessionMeaning) (ok : IsShipped s) where
     each_matched_sums (more w ws) end m n = absurd m
     each_matched_sums (more w ws) (more t ts) m n = more_kept t ts (matched_sums w t m.0 n.0) (each_matched_sums ws ts m.1 n.1)
 
-  -- Of an array that a wire tree tells nothing is lost where it is read back, and a sum that is no number becomes the NaN of
-  -- its width.
+  -- Of an array that a wire tree decodes to, nothing is lost where it is read back, and a sum that is no number becomes
+  -- the NaN of its width.
   pub told_sums : (w : Wire) (d : Typ) (n : ℕ) (t : Tree) → DecodesTo codec s w d n t → canon codec s t ≡ sums_canonical t
   told_sums w d n t x = canon_written codec s t x.sound (x.normal ok) ∙ matched_sums w t x.matched (x.normal ok)

@@ -32,7 +32,7 @@ module _ (ids : List (List ℕ)) (s : SessionMeaning) where
     in_rows end n b w k = tt
     in_rows (more t ts) n b w k = (in_node t n b (omega (arith, w)) k, in_rows ts (n + length (gathered buffers_at_node (wire codec s t))) b (omega (arith, w)) k)
 
-  -- That of each node of an array whose message is light can.
+  -- The metadata of each node of an array whose message is light can be counted.
   pub countable_in : (t : Tree) (options : SerializeOptions) (message : List ℕ) (ds : List Descriptor) → Shows array_schema message (message_value (numbered ids 0 (wire codec s t)) ds)
       → KeepsLimits (message_limits options) (weight array_schema message) → HasCountableMetadata codec t
   countable_in t options message ds shows within_limits =

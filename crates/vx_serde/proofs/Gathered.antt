@@ -1,4 +1,4 @@
--- What the nodes of a tree that is written bring along, and why it is not taken.
+-- The buffers and numbers of the nodes of a tree that is written, and why it is not taken.
 use Rattle.std.proofs.Common.{ℕ, Bool, ◌≡◌, ◌+◌, ◌<◌, List, [], ◌∷◌, ◌++◌, Some, length, take, get_or, ap, ◌∙◌, subst, append_assoc}
 use Rattle.std.proofs.lemmas.List.{take_more}
 use Rattle.vx_trees.specs.Everywhere.{Everywhere, EverywhereBelow}
@@ -27,14 +27,14 @@ everywhere-next F ts i t h e b x =
     let P : Rose _ → Type 0 = λ z. Everywhere F z in
     everywhere_below-snoc F (take i ts) (take (i + 1) ts) (get_or ts i t) b (subst P e x) (take_more ts i t h)
 
--- ---- why what nodes bring along is not taken
+-- ---- why the identifiers of nodes are not taken
 
 pub root-refused : (s : SessionMeaning) (two : Bool) → writes_two s ≡ two → (t : Tree) (c : Context) (e : WireError) → RefusesIds (array_id two t ∷ []) c e → RefusesIds (ids_in (wire codec s t)) c e
 root-refused s two q t c OutOfMemory h = tt
 root-refused s two q t c NotPermitted h = ungrown-own (wire codec s t) c (own-ungrown s two q t c h)
 root-refused s two q t c _ h = absurd h
 
--- What a tree below brings along comes after the root's identifier and those of the first trees.
+-- The buffers and numbers of a tree below come after the root's identifier and those of the first trees.
 module _ (s : SessionMeaning) (two : Bool) (same : writes_two s ≡ two) (t : Tree) (ts : List Tree) (i : ℕ) (u : Tree) (a b c : Context) where
   pub child-ungathered : (e : WireError) → i < length ts → u ≡ get_or ts i u → roses_of ts ≡ below t
       → grown_by (array_id two t ∷ []) a ≡ Some b → grown_by (gathered_first s (λ h. id_in h) ts i) b ≡ Some c
@@ -53,6 +53,6 @@ unplaced_nodes s o t c _ h = absurd h
 
 -- ---- numbers of encodings
 
--- Numbers in a list of identifiers stay, where more come to it.
+-- Numbers in a list of identifiers stay, where more are appended.
 pub longer-ids : (ids added others all : List (List ℕ)) → all ≡ ids ++ added → all ++ others ≡ ids ++ (added ++ others)
 longer-ids ids added others all e = ap (λ z. z ++ others) e ∙ append_assoc ids added others

@@ -59,7 +59,7 @@ same-step : (b : Bool) (p q n : ℕ) → (if b then 0 else suc p) < suc n → (p
 same-step true p q n h f = refl
 same-step false p q n h f = ap (λ k. suc k) (f (omega (arith, h)))
 
--- a place within a list stays where more comes after it
+-- A place within a list stays where more comes after it.
 pub index_of-more : (id : List ℕ) (ids more : List (List ℕ)) → index_of id ids < length ids → index_of id (ids ++ more) ≡ index_of id ids
 index_of-more id [] more h = absurd (omega (arith, h))
 index_of-more id (other ∷ ids) more h = same-step (bytes_eq id other) (index_of id ids) (index_of id (ids ++ more)) (length ids) h (λ g. index_of-more id ids more g)
@@ -83,7 +83,7 @@ taken-is id a b e = permitted (is_allowed a.allowed id && nat_lt (index_of id a.
 pub taken-place : (id : List ℕ) (a b : Context) → interned id a ≡ Some b → index_of id b.ids < length b.ids
 taken-place id a b e = rw (taken-is id a b e) (with_id-place id a.ids)
 
--- the number of an identifier stays, whatever comes after it
+-- The number of an identifier stays, whatever comes after it.
 pub taken-number : (id : List ℕ) (a b : Context) (n : ℕ) (more : List (List ℕ)) → interned id a ≡ Some b → index_of id b.ids ≡ n → index_of id (b.ids ++ more) ≡ n
 taken-number id a b n more e p = index_of-more id b.ids more (taken-place id a b e) ∙ p
 

@@ -12,7 +12,7 @@ use Rattle.vx_serde.proofs.NumberedRead.{IsPlaced}
 
 -- ---- the first place of an identifier
 
--- Where the first place is within the list, the identifier stands there.
+-- Where the first place is within the list, it holds the identifier.
 stands-within : (id : List ℕ) (ids : List (List ℕ)) → index_of id ids < length ids → slice_get ids (index_of id ids) ≡ Some id
 stands-within id [] h = absurd (omega (arith, h))
 stands-within id (other ∷ ids) h = at (bytes_eq id other) (bytes_eq-Decides id other).0 h (λ g. stands-within id ids g) where
@@ -33,7 +33,7 @@ placed-more id ids rest h =
 
 -- ---- a list with an identifier
 
--- What an identifier's coming makes of a list: more may stand after what was there, and the identifier has its place.
+-- An identifier that is taken into a list: more may stand after what was there, and the identifier has its place.
 record Comes (ids new : List (List ℕ)) (id : List ℕ) : Type 0 where
   pub rest : List (List ℕ)
   pub front : new ≡ ids ++ rest
@@ -51,8 +51,8 @@ comes ids id fits = at (is_among id ids) (λ e. index_of-among id ids e) (λ e. 
 
 -- ---- contexts
 
--- What a context is after identifiers have come to it: more may stand after what was there, and each of those that
--- came has its place.
+-- A context after identifiers are taken into it: more may stand after what was there, and each of those that were taken
+-- has its place.
 pub record IsGrownBy (came : List (List ℕ)) (old new : Context) : Type 0 where
   pub rest : List (List ℕ)
   pub front : new.ids ≡ old.ids ++ rest

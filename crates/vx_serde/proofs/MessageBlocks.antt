@@ -44,7 +44,7 @@ root_link n = record { block = n; index = 0; kind = link.Table }
 abbrev pub descriptors_link : ℕ → Link
 descriptors_link n = record { block = n; index = 1; kind = link.Vector }
 
--- a descriptor's struct has eight bytes
+-- A descriptor's struct has eight bytes.
 eight : struct_size array_schema 0 ≡ 8
 unfolding struct_size
 eight = refl
@@ -78,7 +78,7 @@ module _ (es : List ℕ) (w : Wire) (bytes : List ℕ) (of : IsOf array_schema (
   blocks-refused most flat.BadTable b h = absurd h
   blocks-refused most flat.TableLimit b h = absurd h
 
-  -- More nodes have too many tables.
+  -- A message of more nodes has too many tables.
   pub too-many : (deep : Bool) → Everywhere IsToldNode w → 499999 < nodes w → RefusesBytes (limits_to deep) (layout_by es w bytes) WireLimit
   too-many deep told n = λ short within_limits.
       let shown = shows-layout (message_by es w bytes) of short in
@@ -90,7 +90,7 @@ module _ (es : List ℕ) (w : Wire) (bytes : List ℕ) (of : IsOf array_schema (
       let Q : WireError → Type 0 = λ z. RefusesBytes most (layout_by es w bytes) z in
       subst Q (sym h.0) (λ short within_limits. subst P is h.1 within_limits)
 
-  -- A builder has them at least, and is not in the midst of one.
+  -- A builder has these tables at least, and is not in the middle of a block.
   module _ (b : Built) (h : AreWritten nothing_built (pieces array_schema (message_by es w bytes)) b) where
     same : b ≡ with_pieces nothing_built (message_piece ∷ (node_pieces es 0 0 w ++ (elements_piece 8 bytes ∷ [])))
     same = h.blocks ∙ ap (λ ps. with_pieces nothing_built ps) (sym (message-blocks es w bytes))
@@ -106,14 +106,14 @@ module _ (es : List ℕ) (w : Wire) (bytes : List ℕ) (of : IsOf array_schema (
     pub idle-written : b.waits ≡ None
     idle-written = ap (λ (x : Built). x.waits) same ∙ waits-with_pieces nothing_built message_piece (node_pieces es 0 0 w ++ (elements_piece 8 bytes ∷ []))
 
--- ---- answers
+-- ---- results
 
--- What holds of some bytes holds of those that an answer gives, where they are the same.
+-- A fact of some bytes holds of those of an Ok result, where they are equal.
 pub if_ok-same : {T E : Type 0} (r : Result T E) (f : T → List ℕ) (m : List ℕ) (Q : List ℕ → Type 0) → IfOk r (λ x. f x ≡ m) → OnOk r (Q m) → IfOk r (λ x. Q (f x))
 if_ok-same (Ok x) f m Q h q = subst Q (sym h) q
 if_ok-same (Err e) f m Q h q = tt
 
--- What holds where an answer is given goes into what follows of it.
+-- What holds of an Ok result may be used in what follows from it.
 pub if_ok_where : {T E : Type 0} (r : Result T E) (H : Type 0) (P Q : T → Type 0) → (H → (x : T) → P x → Q x) → OnOk r H → IfOk r P → IfOk r Q
 if_ok_where (Ok x) H P Q f k h = f k x h
 if_ok_where (Err e) H P Q f k h = tt

@@ -1,4 +1,4 @@
--- The table value of a message tells that message, and is a value of the schema.
+-- The table value of a message shows that message, and is a value of the schema.
 use Rattle.std.proofs.Common.{ℕ, ◌≡◌, ◌*◌, ◌<◌, ◌^◌, List, [], ◌∷◌, length, Some, refl, arith}
 use Rattle.std.specs.Prelude.{All}
 use Rattle.std.proofs.lemmas.Nat.{from_le_bytes-to_le_bytes_2, from_le_bytes-to_le_bytes_4}
@@ -39,7 +39,7 @@ length-descriptors_bytes [] = refl
 length-descriptors_bytes (d ∷ ds) = omega (arith, length-descriptors_bytes ds)
 
 mutual
-  -- The table of a node tells the node, with all nodes below it.
+  -- The table of a node shows the node, with all nodes below it.
   pub node_of-node_value : (t : Rose NodeFields) → IsNumbered t → node_of (node_value t) ≡ t
   node_of-node_value (node f ts) fit =
       let buffers = indices_of-index_bytes f.buffers fit.0.buffers in
@@ -53,7 +53,7 @@ mutual
       let rest = nodes_of-rows_value ts fit.1 in
       λ k. more (first k) (rest k)
 
--- The table of a message tells its root and its descriptors.
+-- The table of a message shows its root and its descriptors.
 pub message_of-message_value : (root : Rose NodeFields) (ds : List Descriptor) → IsNumbered root → All IsDescribed ds
     → message_of (message_value root ds) ≡ record { root = Some root; descriptors = ds }
 message_of-message_value root ds numbered described =

@@ -1,4 +1,4 @@
--- Where a blob spells an array within the limits, no refusal but allocation failure has a cause.
+-- Where a blob spells an array within the limits, the only refusal with a cause is `OutOfMemory`.
 use Rattle.std.proofs.Common.{ℕ, ◌≡◌, List, ◌++◌, Option, Some, None, length, refl, sym, ap, ◌∙◌, subst, arith, length-append, inl, inr}
 use Rattle.std.specs.Prelude.{IsSome}
 use Rattle.std.specs.Int.{w32, from_le_bytes}
@@ -102,11 +102,11 @@ module _ (asked : Request) (ok : IsShipped asked.session) (law : IsLawful codec 
     has_blob grows WireLimit h = absurd (h fits)
     has_blob grows _ h = absurd h
 
-    -- And it has a blob.
+    -- And the array has a blob.
     pub never_unwritten : IsSome (grown codec asked.session asked.context t) → (x : WireError) → RefusesArray asked.session t asked.context asked.options x → x ≡ OutOfMemory
     never_unwritten grows x h = has_blob grows x (refused_own asked.session ok t asked.context asked.options x has_writers h)
 
--- Where what is asked can be done, no refusal but allocation failure has a cause: none of the blob,
+-- Where what is asked can be done, the only refusal with a cause is `OutOfMemory`: no cause is one of the blob,
 pub memory_at_blob : (asked : Request) → IsShipped asked.session → IsLawful codec asked.session → (e : WireError) → CanRecode asked → RefusesOpening (message_limits asked.options) e asked.blob → e ≡ OutOfMemory
 memory_at_blob asked ok law e can cause = never_closed asked ok law can.array can.spelled can.reader_limits e cause
 

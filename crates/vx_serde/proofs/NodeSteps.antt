@@ -30,7 +30,7 @@ use Rattle.vx_serde.proofs.NodeWays.{node-whole}
 use Rattle.vx_serde.proofs.WalkedNodes.{gathered_below-append}
 use Rattle.vx_serde.proofs.WiredNodes.{wired, wires-list, wired-length, wired-at, wired-below, wired-within, wired-nodes, own-buffers, own-length, own-metadata, own-stats}
 
--- Where memory is wanted before the first block, nothing was written.
+-- Where allocation fails before the first block, nothing was written.
 pub nothing-written : (ps : List Piece) (old : Built) (e : FlatError) → e ≡ flat.OutOfMemory → RefusesPieces old ps e old
 nothing-written ps old e is =
     let P : FlatError → Type 0 = λ z. RefusesPieces old ps z old in
@@ -64,7 +64,7 @@ stored-node (node h us) ts e x b = (x, subst (λ (z : Trees). EverywhereBelow (I
 pub stored-all : (ts : List Tree) (i : ℕ) → length ts ≤ i → EverywhereBelow (IsStorableNode codec) (roses_of (take i ts)) → EverywhereBelow (IsStorableNode codec) (roses_of ts)
 stored-all ts i past b = subst (λ (us : List Tree). EverywhereBelow (IsStorableNode codec) (roses_of us)) (take_all i ts past) b
 
--- A node is one, and those below it.
+-- The nodes of a tree are its root and those below it.
 pub counted-below : (t : Tree) (ts : List Tree) → roses_of ts ≡ below t → nodes t ≡ nodes_of (roses_of ts) + 1
 counted-below t ts at = nodes-is t ∙ ap (λ z. nodes_of z + 1) (sym at)
 

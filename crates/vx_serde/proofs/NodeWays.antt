@@ -83,7 +83,7 @@ module _ (old : Built) (v : ℕ) where
 
 -- ---- the whole
 
--- The blocks of a node are these, where its parts are.
+-- The blocks of a node, from its parts.
 pub node-whole : (es : List ℕ) (k first own : ℕ) (w : Wire) (v : ℕ) (m bytes : List ℕ) (x : Stats) → (label w).stats ≡ table (stats_table x) → v ≡ get_or es k 0 → m ≡ (label w).metadata
     → own ≡ length (present (label w).buffers) → bytes ≡ index_bytes (numbers_from first own)
     → node_piece v ∷ (elements_piece 1 m ∷ (children_pieces es (k + 1) (first + own) (below w) ++ (elements_piece 2 bytes ∷ stats_pieces x))) ≡ node_pieces es k first w

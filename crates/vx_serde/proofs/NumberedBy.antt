@@ -40,7 +40,7 @@ mutual
 pub as-many : (ids : List (List ℕ)) (w : Wire) (es : List ℕ) → es ≡ encodings_in ids w → length es ≡ nodes w
 as-many ids w es e = ap (λ z. length z) e ∙ encodings-count ids w
 
--- The numbers of a tree's encodings, where they were found after none.
+-- The numbers of a tree's encodings, where they are the first that are found.
 pub first-encodings : (w : Wire) (ids : List (List ℕ)) (start es : List ℕ) → start ≡ [] → es ≡ start ++ encodings_in (ids ++ []) w → es ≡ encodings_in ids w
 first-encodings w ids start es e h =
     h ∙ ap (λ z. z ++ encodings_in (ids ++ []) w) e ∙ ap (λ z. encodings_in z w) (append-nil ids)
@@ -92,7 +92,7 @@ module _ (ids : List (List ℕ)) (w : Wire) (es bytes : List ℕ) (known : es �
 
 -- ---- how many tables a message has
 
--- A vector that may stand has no table, and neither has a number that may stand: so the table of a set is one table.
+-- A vector that may be absent has no table, and neither has such a number: so the table of a set is one table.
 value_tables : (x : Told) → (weight_of_field (value_field x)).tables ≡ 0
 value_tables (Exact v) = refl
 value_tables (Inexact v) = refl

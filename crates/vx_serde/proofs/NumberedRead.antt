@@ -17,7 +17,7 @@ use Rattle.vx_serialized.specs.Blob.{wire_of, wires_of}
 use Rattle.vx_wire_tree.specs.Context.{index_of}
 use Rattle.vx_serde.specs.Numbered.{encoding_index, numbers_from, numbered, numbered_below}
 
--- The identifier's place leads to it, and fits two bytes.
+-- The identifier stands at its place, which fits two bytes.
 pub record IsPlaced (ids : List (List ℕ)) (id : List ℕ) : Type 0 where
   pub stands : slice_get ids (index_of id ids) ≡ Some id
   pub fits : index_of id ids < 65536
@@ -74,7 +74,7 @@ index_within ids o id e h =
     let P : Option (List ℕ) → Type 0 = λ o. encoding_index o ids < 2 ^ 16 in
     subst P (sym e) (omega (arith, h.fits))
 
--- A node's statistics stand in no field or in a table of their kind.
+-- A node's statistics are absent or a table of their kind.
 abbrev pub IsTabledNode : WireHead → Wires → Type 0
 IsTabledNode h ws = IsOfKind array_schema (Table 2) h.stats
 
@@ -105,7 +105,7 @@ present-map : (bs : List Buffer) → present (map (λ b. Some b) bs) ≡ bs
 present-map [] = refl
 present-map (b ∷ bs) = ap (λ r. b ∷ r) (present-map bs)
 
--- What stands, where nothing is missing.
+-- The items that are there are all, where nothing is missing.
 present_all : (os : List (Option Buffer)) (bs : List Buffer) → os ≡ map (λ b. Some b) bs → map (λ b. Some b) (present os) ≡ os
 present_all os bs e = ap (λ r. map (λ b. Some b) (present r)) e ∙ ap (λ r. map (λ b. Some b) r) (present-map bs) ∙ sym e
 

@@ -11,7 +11,7 @@ use Rattle.vx_encodings.specs.Messages.{codec}
 use Rattle.vx_serde.specs.Spells.{Spells}
 use Rattle.vx_serialized.proofs.LawsOfBlobs.{carried_once}
 
--- A blob spells at most one array at a type and a length, beside one list of identifiers and under one session.
+-- With one list of identifiers and under one session, a blob spells at most one array at a type and a length.
 pub spelled_once : (blob : List ℕ) (ids : List (List ℕ)) (d : Typ) (n : ℕ) (s : SessionMeaning) (t u : Tree) → IsShipped s → IsLawful codec s → Spells blob ids d n s t → Spells blob ids d n s u → t ≡ u
 spelled_once blob ids d n s t u ok law x y =
     let w = (carried_once blob ids y.wire x.wire y.carried x.carried).tree in

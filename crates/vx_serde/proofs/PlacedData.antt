@@ -10,12 +10,12 @@ use Rattle.vx_serde.specs.WrittenBuffers.{unaligned, pad_buffers, data_buffers}
 
 -- ---- positions
 
--- buffers end no earlier than they may start
+-- Buffers end no earlier than they may start.
 pub data_end-least : (o : SerializeOptions) (p : ℕ) (bs : List Buffer) → p ≤ data_end o p bs
 data_end-least o p [] = omega arith
 data_end-least o p (b ∷ bs) = omega (arith, data_end-least o (p + pad o b.exponent p + length b.bytes) bs)
 
--- and the first of those that are left ends no later than all of them
+-- The first of those that are left ends no later than all of them.
 pub data_end-next : (o : SerializeOptions) (p : ℕ) (bs : List Buffer) (i : ℕ) (b : Buffer) → i < length bs → b ≡ get_or bs i b → p + pad o b.exponent p + length b.bytes ≤ data_end o p (drop i bs)
 data_end-next o p bs i b h e =
     rw (drop-cons bs i b)
@@ -39,7 +39,7 @@ joined-data o p (b ∷ bs) =
     ∙ ap (λ r. r ++ (b.bytes ++ joined (data_buffers o (p + pad o b.exponent p + length b.bytes) bs))) (joined-pad (pad o b.exponent p))
     ∙ ap (λ r. replicate (pad o b.exponent p) 0 ++ (b.bytes ++ r)) (joined-data o (p + pad o b.exponent p + length b.bytes) bs)
 
--- how many bytes the data has
+-- The length of the data in bytes.
 pub length-data : (o : SerializeOptions) (p : ℕ) (bs : List Buffer) → p + length (data_from o p bs) ≡ data_end o p bs
 length-data o p [] = omega arith
 length-data o p (b ∷ bs) =

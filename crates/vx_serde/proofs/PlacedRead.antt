@@ -13,7 +13,7 @@ use Rattle.vx_serde.specs.MessageValue.{IsDescribed}
 use Rattle.vx_serialized.specs.Blob.{buffers_at, end_of}
 use Rattle.vx_serde.specs.Placing.{gap_to, pad, descriptors_from, data_from}
 
--- Beside its pad, a buffer's bytes stand where its descriptor says.
+-- After its pad, a buffer's bytes stand where its descriptor says.
 taken : (before zeros bytes after : List ℕ) (p n : ℕ) → length before ≡ p → length zeros ≡ n → take (length bytes) (drop (p + n) (before ++ (zeros ++ (bytes ++ after)))) ≡ bytes
 taken before zeros bytes after p n e g =
     let at : length (before ++ zeros) ≡ p + n = omega (arith, length-append before zeros, e, g) in
@@ -23,7 +23,7 @@ taken before zeros bytes after p n e g =
     ∙ ap (λ s. take (length bytes) s) (drop-append_seam (before ++ zeros) (bytes ++ after))
     ∙ take-append_seam bytes after
 
--- Descriptors give back the buffers that they were made for, whatever stands in front of the data and after it.
+-- Descriptors give back the buffers that they were made for, whatever stands before the data and after it.
 pub buffers_at-descriptors_from : (options : SerializeOptions) (position : ℕ) (bs : List Buffer) (before after : List ℕ) (p : ℕ) → length before ≡ p
     → buffers_at (before ++ (data_from options position bs ++ after)) p (descriptors_from options position bs) ≡ bs
 buffers_at-descriptors_from options position [] before after p e = refl
@@ -78,7 +78,7 @@ pad-below options exponent position h =
     let most : 2 ^ exponent ≤ 2 ^ 16 = pow-le-pow_right (omega arith) h in
     pad_by options.include_padding (gap_to (2 ^ exponent) position) (omega (arith, gap_below (2 ^ exponent) position (pow_pos exponent), most))
 
--- What descriptors say fits their bytes.
+-- The numbers in descriptors fit their bytes.
 pub described-descriptors_from : (options : SerializeOptions) (position : ℕ) (bs : List Buffer) → AreDescribable bs → All IsDescribed (descriptors_from options position bs)
 described-descriptors_from options position [] fit = All-nil IsDescribed
 described-descriptors_from options position (b ∷ bs) fit =

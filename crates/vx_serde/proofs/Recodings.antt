@@ -1,4 +1,4 @@
--- What recoding a blob gives, what it leaves, and why it does not.
+-- What recoding a blob gives, what it leaves, and why it refuses.
 use Rattle.std.proofs.Common.{ℕ, ◌≡◌, List, ◌++◌, Option, None, Some, replicate, refl, sym, ap, ◌∙◌, subst, inl, inr}
 use Rattle.std.specs.Prelude.{IsSome}
 use Rattle.vx_array_tree.specs.Tree.{Tree, Trees}
@@ -50,7 +50,7 @@ use Rattle.vx_serde.proofs.WrittenOwn.{serialized_own}
 use Rattle.vx_serde.proofs.Growing.{kept-same}
 use Rattle.vx_serde.proofs.Taking.{refused_own}
 
--- An opened blob spells the array that its wire tree tells.
+-- An opened blob spells the array that its wire tree decodes to.
 pub spells : (asked : Request) (w : Wire) (t : Tree) → IsOpened (message_limits asked.options) asked.blob asked.ids w → DecodesTo codec asked.session w asked.dtype asked.len t → IsSpelled asked t
 spells asked w t opened told = record {
   wire = w;
@@ -105,7 +105,7 @@ mutual
   each_written_messages end k = tt
   each_written_messages (more t ts) k = (written_messages t k.0, each_written_messages ts k.1)
 
--- What was recoded can be recoded again, and its bytes stay as they are.
+-- What was recoded can be recoded again, and its bytes stay the same.
 twice : (asked : Request) (made : Product) → IsShipped asked.session → IsLawful codec asked.session → IsSpelled asked made.array
     → IsWrittenBlob asked.session made.array asked.options asked.context made.context made.buffers
     → Spells (joined made.buffers) made.context.ids asked.dtype asked.len asked.session (canon codec asked.session made.array) → IsTwiceAsOnce asked made
@@ -154,14 +154,14 @@ faithful asked made ok law paired recoded =
 
 -- ---- what is left
 
--- A context that is as it was.
+-- An unchanged context.
 pub left-still : (asked : Request) → LeavesContext asked asked.context
 left-still asked = record {
   some = inl refl;
   kept = λ shipped array spelled. kept-same (ids_in (wire codec asked.session array)) asked.context asked.context refl;
 }
 
--- A context that identifiers of the spelled array came to.
+-- A context that has taken identifiers of the spelled array.
 pub left-written : (asked : Request) → IsLawful codec asked.session → (t : Tree) (after : Context) → IsSpelled asked t → KeepsContext (ids_in (wire codec asked.session (as_written asked.session asked.options t))) asked.context after
     → (IsShipped asked.session → KeepsContext (ids_in (wire codec asked.session t)) asked.context after) → LeavesContext asked after
 left-written asked law t after spelled keeps own = record {
@@ -185,7 +185,7 @@ caused_by_blob asked Compressed u = u
 caused_by_blob asked OutOfBounds u = inl u
 caused_by_blob asked _ u = absurd u
 
--- A wire tree that tells no array.
+-- A wire tree that decodes to no array.
 pub caused_by_tree : (asked : Request) (e : WireError) (w : Wire) → Carries asked.blob asked.ids w → RefusesWire asked.session e w asked.dtype asked.len → Refuses asked e
 caused_by_tree asked OutOfMemory w carried u = tt
 caused_by_tree asked OutOfBounds w carried u = inr (record { wire = w; carried = carried; cause = u })
@@ -204,7 +204,7 @@ has_writers : (asked : Request) → IsLawful codec asked.session → IsPaired as
 has_writers asked law paired t spelled why u ok =
     never_untaken asked.session ok (most_levels asked.options) why t (matched_written codec asked.session ok law paired spelled.wire t spelled.told.matched) u
 
--- By encodings alone it is written as it stands.
+-- With encodings alone it is written unchanged.
 refused_spelled : (asked : Request) → IsLawful codec asked.session → IsPaired asked.session → (e : WireError) (t : Tree) → IsSpelled asked t → RefusesArray asked.session t asked.context asked.options e
     → SpellsOne asked (λ u. RefusesSpelled asked e u)
 refused_spelled asked law paired e t spelled u = record {
@@ -227,7 +227,7 @@ caused_by_writing asked law paired UndeclaredId t spelled u = (has_writers asked
 caused_by_writing asked law paired PluginRefused t spelled u = (has_writers asked law paired t spelled unwilling u, inr (record { array = t; spelled = spelled; holds = u }))
 caused_by_writing asked law paired _ t spelled u = absurd u
 
--- No array is left unwritten for a refusal that is of reading alone.
+-- No refusal of reading alone leaves an array unwritten.
 pub written_of_reading : (asked : Request) (e : WireError) (t : Tree) → RefusesArray asked.session t asked.context asked.options e → IsOfReading e → ⊥
 written_of_reading asked TooShort t u r = absurd u
 written_of_reading asked BadTable t u r = absurd u

@@ -28,7 +28,7 @@ stopped_by e y old new (inr q) k u f =
     let Q : ScalarWireError → Type 0 = λ z. RefusesWritingStats z y old in
     subst P (sym q) (k, f q, subst Q q u)
 
--- or they were not, for allocation failure or because with them the message is too long.
+-- or they were not: allocation failed, or with them the message is too long.
 pub stopped_for : (d : Typ) (x y : Stats) → x ≡ y → FitStats d y → (old new : Built) (e : ScalarWireError) → Keeps old (stats_pieces x) new → RefusesWritingStats e x old → (e ≡ MessageTooLong → new.failed ≡ true)
     → RefusesPieces old (stats_pieces y) (builder_refusal e) new
 stopped_for d x y same fits old new e k u f =

@@ -64,7 +64,7 @@ module _ (s : SessionMeaning) (n : ℕ) where
         written_each = subst (λ z. Each (λ v. IsTaken s n v) (roses_of z)) (sym next) (facts_behind (λ v. IsTaken s n v) (take i ts) t k.written_each w);
       }
 
-  -- All are passed by.
+  -- All arrays are taken.
   pub whole_taken : (ts : List Tree) (i : ℕ) (us : List Tree) → length ts ≤ i → AreTaken s n (take i ts) us → AreTaken s n ts us
   whole_taken ts i us past k = subst (λ z. AreTaken s n z us) (take_all i ts past) k
 
@@ -103,24 +103,24 @@ one_below s room arrays i t e at k = subst (λ z. RefusesOneOf s room z e) (rose
 pub wanted_below : (s : SessionMeaning) (n : ℕ) (ts : Trees) (e : WireError) → e ≡ OutOfMemory → RefusesOneOf s n ts e
 wanted_below s n ts e p = subst (λ x. RefusesOneOf s n ts x) (sym p) tt
 
--- One below it is not: memory was wanted, or that is what was answered.
+-- One below it is not taken: allocation failed, or it was refused.
 pub filled_not : {A : Type 0} (s : SessionMeaning) (room : ℕ) → 0 < room → (arrays : Trees) (i : ℕ) (h : Head) (ts : Trees) → IsRootAt s arrays i h ts → (r : Result A WireError) (e : WireError)
     → IfErr r (RefusesOneOf s (room - 1) ts) → (e ≡ OutOfMemory) ⊎ (r ≡ Err e) → RefusesOneOf s room arrays e
 filled_not s room p arrays i h ts o r e k (inl m) = wanted_below s room arrays e m
 filled_not s room p arrays i h ts o r e k (inr m) =
     one_below s room arrays i o.array e o.stands (root_refused_below s room p o.array h ts o.step_is e (subst (λ z. IfErr z (RefusesOneOf s (room - 1) ts)) m k))
 
--- An answer that is well is.
+-- A result that is Ok.
 pub well : {T E : Type 0} (r : Result T E) (x : T) → r ≡ Ok x → IsOk r
 well (Ok y) x e = refl
 well (Err y) x e = absurd (cc)
 
--- What was answered well.
+-- What holds of an Ok result.
 pub of_ok : {T E : Type 0} (r : Result T E) (P : Type 0) → IsOk r → OnOk r P → P
 of_ok (Ok x) P k h = h
 of_ok (Err e) P k h = absurd (cc)
 
--- ---- a root that is written as it stands, over its array's own children
+-- ---- a root that is written unchanged, over its array's own children
 
 pub own_root : (r : TakenRoot) (us : List Tree) → us ≡ roses_list (root_arrays r) → r.given ≡ None → IsOwn r us
 own_root r us e g = record { ungiven = g; children_are = e ∙ ap (λ z. roses_list (root_below (below (source_tree r.source)) z)) g }
@@ -128,12 +128,12 @@ own_root r us e g = record { ungiven = g; children_are = e ∙ ap (λ z. roses_l
 pub whole_tree : (t : Tree) → node (label t) (below t) ≡ t
 whole_tree (node h ts) = refl
 
--- It is its array.
+-- Its tree is its array's.
 pub own_tree : (r : TakenRoot) (us : List Tree) → IsOwn r us → node (root_node r) (roses_of us) ≡ source_tree r.source
 own_tree r us k =
     let t = source_tree r.source in
     ap (λ z. node (root_head (label t) z) (roses_of us)) k.ungiven ∙ ap (λ z. node (label t) z) (ap (λ z. roses_of z) k.children_are ∙ roses_of-roses_list (below t)) ∙ whole_tree t
 
--- One more child as it stands.
+-- One more child unchanged.
 pub one_more_own : (ts : List Tree) (i : ℕ) (t : Tree) (old new : List Tree) (u : Tree) → slice_get ts i ≡ Some t → old ≡ take i ts → u ≡ t → new ≡ old ++ u ∷ [] → new ≡ take (i + 1) ts
 one_more_own ts i t old new u at k is e = e ∙ (λ j. k j ++ is j ∷ []) ∙ sym (take_next ts i t at)

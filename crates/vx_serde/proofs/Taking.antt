@@ -33,12 +33,12 @@ use Rattle.vx_serde.specs.declared.taken.GivenParts.{GivenParts}
 use Rattle.vx_serde.specs.Taking.{as_written, own_parts, taken_head, StandsAs, unwritten_by, RefusesTaking, RefusesOneOf}
 use Rattle.vx_serde.proofs.WiredNodes.{wired-levels}
 
--- No cause is told of which none holds.
+-- A refusal stands for no cause where none holds.
 never_because : (o : Option Unwritten) (P : Unwritten → Type 0) → ((why : Unwritten) → P why → ⊥) → IsSomeAnd o P → ⊥
 never_because None P f k = k
 never_because (Some why) P f k = f why k
 
--- What follows of each cause follows of the one that is told.
+-- What follows from each cause follows from the one that a refusal stands for.
 because : (o : Option Unwritten) (P Q : Unwritten → Type 0) → ((why : Unwritten) → P why → Q why) → IsSomeAnd o P → IsSomeAnd o Q
 because None P Q f k = k
 because (Some why) P Q f k = f why k
@@ -119,13 +119,13 @@ module _ (s : SessionMeaning) where
 
 -- ---- a node that is written
 
--- Its metadata looks at the places below alone.
+-- Its metadata depends on the places below alone.
 pub metadata_at : (h : Head) (us ts : Trees) → places us ≡ places ts → message_bytes (told (metadata_in h ts)) ≡ message_bytes (told (metadata_in h us))
 metadata_at h us ts e = ap (λ ps. message_bytes (told (metadata_of h.body ps))) (sym e)
 
 -- A node that stands for an array's root, over other nodes.
 module _ (src : Tree) (us : Trees) (t : Tree) where
-  -- As it stands.
+  -- Unchanged.
   module _ (g : Option (Box GivenParts Global)) (none : g ≡ None) (is : node (taken_head (label src) g) us ≡ t) where
     own_label : label src ≡ label t
     own_label = ap (λ z. taken_head (label src) z) (sym none) ∙ ap (λ z. label z) is
@@ -192,11 +192,11 @@ module _ (s : SessionMeaning) (n room : ℕ) (e : suc n ≡ room) (t : Tree) (h 
   pub below_at : (x : WireError) → RefusesOneOf s n ts x → RefusesTaking s room t x
   below_at x k = subst (λ m. RefusesTaking s m t x) e (below_refused s n t h ts w x k)
 
--- What is written of arrays stands where they do.
+-- The places of what is written of arrays are those of the arrays.
 pub stands_at : (s : SessionMeaning) (n : ℕ) (us ts : Trees) → us ≡ each (taken s n) ts → places us ≡ places ts
 stands_at s n us ts e = ap (λ z. places z) e ∙ places_taken s n ts
 
--- Memory was wanted.
+-- Allocation failed.
 pub wanted : (s : SessionMeaning) (n : ℕ) (t : Tree) (e : WireError) → e ≡ OutOfMemory → RefusesTaking s n t e
 wanted s n t e p = subst (λ x. RefusesTaking s n t x) (sym p) tt
 
@@ -204,7 +204,7 @@ wanted s n t e p = subst (λ x. RefusesTaking s n t x) (sym p) tt
 pub no_room : (s : SessionMeaning) (room : ℕ) (t : Tree) → room ≡ 0 → RefusesTaking s room t WireLimit
 no_room s room t e = subst (λ m. RefusesTaking s m t WireLimit) (sym e) (inl (omega arith))
 
--- A node and those below it have messages, and so many levels.
+-- The metadata of a node, and of those below it, fits its messages.
 pub own_messages : (s : SessionMeaning) (n : ℕ) (h : Head) (us ts : Trees) → us ≡ each (taken s n) ts → HasMessage h ts → EverywhereBelow HasMessage us → HasMessages (node h us)
 own_messages s n h us ts e m k = (message_by_places s h ts us (sym (stands_at s n us ts e)) m, k)
 
@@ -217,7 +217,7 @@ without_blob s o t c NotPermitted taken l k = record { taken = taken; levels_are
 without_blob s o t c WireLimit taken l k = k
 without_blob s o t c _ taken l k = absurd k
 
--- Where no plugin writes and each node has a writer, an array that is not written has no blob as it stands.
+-- Where no plugin writes and each node has a writer, an array that is not written has no blob itself.
 pub refused_own : (s : SessionMeaning) → IsShipped s → (t : Tree) (c : Context) (o : SerializeOptions) (e : WireError) → IsWritten s t → RefusesArray s t c o e → RefusesWriting s t c o e
 refused_own s ok t c o OutOfMemory w k = tt
 refused_own s ok t c o NotPermitted w k = subst (λ (z : Tree). grown codec s c z ≡ None) (taken_own s ok (most_levels o) t k.taken k.levels_are) k.none

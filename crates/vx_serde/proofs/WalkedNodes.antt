@@ -11,7 +11,7 @@ module _ {L A : Type 0} (f : L → List A) where
   gathered_below-append [] us = refl
   gathered_below-append (t ∷ ts) us = ap (λ r. gathered f t ++ r) (gathered_below-append ts us) ∙ sym (append_assoc (gathered f t) (gathered_below f (roses_of ts)) (gathered_below f (roses_of us)))
 
-  -- What comes before a tree below a node, with what comes from there on, is the whole.
+  -- What comes before a tree below a node, and what comes from there on, are the whole.
   pub gathered-front : (t : Rose L) (ts : List (Rose L)) (i : ℕ) → roses_of ts ≡ below t
       → gathered f t ≡ (f (label t) ++ gathered_below f (roses_of (take i ts))) ++ gathered_below f (roses_of (drop i ts))
   gathered-front t ts i e =
@@ -26,7 +26,7 @@ module _ {L A : Type 0} (f : L → List A) where
       gathered-front t ts i e ∙ ap (λ r. (f (label t) ++ gathered_below f (roses_of (take i ts))) ++ gathered_below f (roses_of r)) (drop-cons ts i d h)
       ∙ sym (append_assoc (f (label t) ++ gathered_below f (roses_of (take i ts))) (gathered f (get_or ts i d)) (gathered_below f (roses_of (drop (suc i) ts))))
 
-  -- Behind all trees below a node nothing is left.
+  -- After all trees below a node nothing is left.
   pub gathered-whole : (t : Rose L) (ts : List (Rose L)) (i : ℕ) → roses_of ts ≡ below t → length ts ≤ i
       → gathered f t ≡ f (label t) ++ gathered_below f (roses_of (take i ts))
   gathered-whole t ts i e h =

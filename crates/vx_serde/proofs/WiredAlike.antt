@@ -49,6 +49,6 @@ module _ (s r : SessionMeaning) where
         in
         λ i. more (a i) (b i)
 
-  -- So their messages are one, where their nodes have these numbers.
+  -- So their messages are equal, where their nodes have these numbers.
   pub message_alike : (es : List ℕ) (t : Tree) (bytes : List ℕ) → message_by es (wire codec s t) bytes ≡ message_by es (wire codec r t) bytes
   message_alike es t bytes = ap (λ z. field (table (node_value z)) (field (elements bytes) no_fields)) (numbered_alike es 0 0 t)

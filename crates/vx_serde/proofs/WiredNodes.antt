@@ -39,7 +39,7 @@ module _ {A B : Type 0} (f : A → B) where
   map-at (y ∷ xs) zero x h e = ap f e
   map-at (y ∷ xs) (suc i) x h e = map-at xs i x (omega (arith, h)) e
 
--- A session that reads and writes nothing. The wire tree of an array does not hang on it.
+-- A session that reads and writes nothing. The wire tree of an array does not depend on it.
 abbrev pub no_session : SessionMeaning
 no_session = record { reader = λ id. None; writer = λ id. None; ext = no_readers }
 
@@ -51,7 +51,7 @@ pub writes_so : (two : Bool) → writes_two (some_session two) ≡ two
 writes_so true = refl
 writes_so false = refl
 
--- A foreign node's bytes stand as they are, and others as their message.
+-- A foreign node's bytes are written unchanged, and others as their message.
 written_bytes : (f : Fields) → metadata_bytes codec f ≡ message_bytes f
 written_bytes (F.raw bytes) = refl
 written_bytes _ = refl
@@ -138,7 +138,7 @@ module _ (s : SessionMeaning) where
 
   -- ---- a walk over the children
 
-  -- What is gathered of the first of them.
+  -- What is gathered of the first n of them.
   abbrev pub gathered_first : {A : Type 0} → (WireHead → List A) → List Tree → ℕ → List A
   gathered_first f ts i = gathered_below f (roses_of (take i (wired ts)))
 

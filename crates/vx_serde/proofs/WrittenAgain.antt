@@ -31,7 +31,7 @@ use Rattle.vx_serde.proofs.NumberedRead.{IsPlaced}
 use Rattle.vx_serde.proofs.WiredStats.{wire-tabled}
 use Rattle.vx_serde.proofs.GrownIds.{grown_by-ids}
 
--- nothing is missing in an array's wire tree
+-- Nothing is missing in an array's wire tree.
 mutual
   pub wire-whole : (c : Codec) (s : SessionMeaning) (t : Tree) → IsWhole (wire c s t)
   wire-whole c s (node h ts) = (record { id = written_id s h; id_is = refl; buffers = buffers_of h.body; buffers_are = refl }, wires-whole c s ts)
@@ -40,7 +40,7 @@ mutual
   wires-whole c s end = tt
   wires-whole c s (more t ts) = (wire-whole c s t, wires-whole c s ts)
 
--- the identifiers after an array are those of the context that is grown by it
+-- The identifiers after an array are those of the context that is grown by it.
 pub grown-ids : (s : SessionMeaning) (t : Tree) (old new : Context) → grown codec s old t ≡ Some new → new.ids ≡ ids_after s t old
 grown-ids s t old new e = grown_by-ids (ids_in (wire codec s t)) old new e
 
@@ -61,7 +61,7 @@ module _ (s : SessionMeaning) (u : Tree) (old new : Context) (options : Serializ
       let w = wire codec s u in
       countable_in new.ids s u options (message_bytes new.ids options w) (descriptors_from options options.offset (buffers_in w)) (message_shows new.ids options w (wire-whole codec s u) (wire-tabled s u) placed writable) writable.within_limits
 
-  -- Its blob spells the array that its wire tree tells, with the identifiers of the grown context.
+  -- Its blob spells the array that its wire tree decodes to, with the identifiers of the grown context.
   pub told_spelled : (d : Typ) (n : ℕ) (t : Tree) → DecodesTo codec s (wire codec s u) d n t → Spells (blob_of s u old options) new.ids d n s t
   told_spelled d n t told =
       let w = wire codec s u in
@@ -104,8 +104,8 @@ pub serialized_again : (s : SessionMeaning) → IsLawful codec s → IsPaired s 
 serialized_again s law paired t old new options bs x r =
     subst (λ z. Spells z new.ids (label t).dtype (label t).len s t) (sym x.blob.written) (returned_again s law paired t old new options r x.blob.grown_is x.blob.limits)
 
--- What shipped encodings write of a sound array spells what is read back of it, where each of its nodes is written, the types
--- in it are known, its statistics can be stored, and nothing reads its topmost foreign nodes.
+-- What shipped encodings write of a sound array spells what is read back of it, where each of its nodes is written, the
+-- types in it are known, its statistics can be stored, and nothing reads its topmost foreign nodes.
 pub read_back : (s : SessionMeaning) → IsShipped s → IsLawful codec s → IsPaired s → (t : Tree) (old new : Context) (options : SerializeOptions) → IsReadAgain s t → IsWritten s t → HasStorableStats codec t
     → grown codec s old t ≡ Some new → KeepsWriterLimits s t old options → Spells (blob_of s t old options) new.ids (label t).dtype (label t).len s (canon codec s t)
 read_back s ok law paired t old new options x written stored grew fit =

@@ -1,4 +1,4 @@
--- Where no plugin writes, what is serialized is written as it stands, and spells what is read back of it.
+-- Where no plugin writes, what is serialized is written unchanged, and spells what is read back of it.
 use Rattle.std.proofs.Common.{ℕ, ◌≡◌, List, ◌≤◌, subst, sym, arith}
 use Rattle.vx_buffer.specs.Buffer.{Buffer}
 use Rattle.vx_trees.specs.Rose.{label}
@@ -22,7 +22,7 @@ use Rattle.vx_serde.proofs.WrittenAgain.{read_back}
 levels_within : (s : SessionMeaning) (t : Tree) (o : SerializeOptions) (before after : Context) (bs : List Buffer) → IsSerialized s t o before after bs → levels (as_written s o t) ≤ most_levels o
 levels_within s t o before after bs x = omega (arith, x.blob.limits.writable.tree.nested, wired-levels s (as_written s o t))
 
--- It is written as it is.
+-- It is written unchanged.
 pub serialized_own : (s : SessionMeaning) (t : Tree) (o : SerializeOptions) (before after : Context) (bs : List Buffer) → IsShipped s → IsSerialized s t o before after bs → as_written s o t ≡ t
 serialized_own s t o before after bs ok x = taken_own s ok (most_levels o) t x.taken (levels_within s t o before after bs x)
 

@@ -18,12 +18,12 @@ use Rattle.vx_serde.specs.Numbered.{encoding_index, numbers_from}
 abbrev pub encodings_in : List (List ℕ) → Wire → List ℕ
 encodings_in ids w = gathered (λ h. encoding_index h.id ids ∷ []) w
 
--- The same of the nodes below one.
+-- The same for the nodes below one.
 abbrev pub encodings_below : List (List ℕ) → Wires → List ℕ
 encodings_below ids ws = gathered_below (λ h. encoding_index h.id ids ∷ []) ws
 
 abbrev mutual
-  -- A tree whose encodings have the numbers of a list in preorder, its root's at the place k, and whose buffers are
+  -- A tree whose encodings have the numbers of a list in preorder, the root's at the place k, and whose buffers are
   -- numbered in preorder from n on.
   pub numbered_by : List ℕ → ℕ → ℕ → Wire → Rose NodeFields
   numbered_by numbers k n (node h ws) =
@@ -42,7 +42,7 @@ abbrev mutual
 abbrev pub node_pieces : List ℕ → ℕ → ℕ → Wire → List Piece
 node_pieces numbers k n w = table_pieces array_schema node_fields (node_value (numbered_by numbers k n w))
 
--- The blocks of the nodes below one, and of the vector that they hang on.
+-- The blocks of the nodes below one, and of the vector that links to them.
 abbrev pub children_pieces : List ℕ → ℕ → ℕ → Wires → List Piece
 children_pieces numbers k n ws =
     let rows = rows_value (numbered_below_by numbers k n ws) in

@@ -18,7 +18,7 @@ use Rattle.vx_serde.specs.Spells.{KeepsWriterLimits}
 use Rattle.vx_serde.specs.Taking.{as_written, unwritten_by}
 use Rattle.vx_serde.specs.Request.{Request, IsSpelled}
 
--- The blob carries a wire tree that tells no array.
+-- The blob carries a wire tree that decodes to no array.
 pub record RefusesCarried (asked : Request) (e : WireError) : Type 0 where
   pub wire : Wire
   pub carried : Carries asked.blob asked.ids wire
@@ -30,8 +30,8 @@ pub record SpellsOne (asked : Request) (P : Tree → Type 0) : Type 0 where
   pub spelled : IsSpelled asked array
   pub holds : P array
 
--- Why a tree that is written has no blob under a context: by the refusal. Allocation failure has no cause but itself. The context
--- does not take one of the tree's identifiers, or a limit on writing is passed.
+-- Why a tree that is written has no blob under a context: by the refusal. Allocation failure has no other cause. The
+-- context does not take one of the tree's identifiers, or a limit on writing is passed.
 abbrev pub RefusesWriting : SessionMeaning → Tree → Context → SerializeOptions → WireError → Type 0
 RefusesWriting s t context options OutOfMemory = Unit {0}
 RefusesWriting s t context options NotPermitted = grown codec s context t ≡ None
@@ -45,24 +45,25 @@ pub record IsNotPermitted (s : SessionMeaning) (t : Tree) (context : Context) (o
   pub levels_are : levels (as_written s options t) ≤ most_levels options
   pub none : grown codec s context (as_written s options t) ≡ None
 
--- Why an array is not written under a context: by the refusal. As it is written it has no blob; or nothing writes the arrays
--- of a node's encoding, or a node is foreign and such nodes are not allowed; or the plugin that writes a node has no form for
--- it, names an identifier that it does not declare, or refuses it.
+-- Why an array is not written under a context: by the refusal. As it is written it has no blob; or nothing writes the
+-- arrays of a node's encoding, or a node is foreign and such nodes are not allowed; or the plugin that writes a node
+-- has no form for it, names an identifier that it does not declare, or refuses it.
 abbrev pub RefusesArray : SessionMeaning → Tree → Context → SerializeOptions → WireError → Type 0
 RefusesArray s t context options OutOfMemory = Unit {0}
 RefusesArray s t context options NotPermitted = IsNotPermitted s t context options
 RefusesArray s t context options WireLimit = RefusesWriting s (as_written s options t) context options WireLimit
 RefusesArray s t context options e = IsSomeAnd (unwritten_by e) (λ why. HasUntaken s (most_levels options) why t)
 
--- Why an array that was read is not written: by the refusal. Where no plugin reads or writes, the array has no blob as it stands.
+-- Why an array that was read is not written: by the refusal. Where no plugin reads or writes, the array itself has no
+-- blob.
 pub record RefusesSpelled (asked : Request) (e : WireError) (t : Tree) : Type 0 where
   pub written : RefusesArray asked.session t asked.context asked.options e
   pub own : IsShipped asked.session → RefusesWriting asked.session t asked.context asked.options e
 
--- Why `recode` refuses: by the refusal. Allocation failure has no cause but itself. The
--- blob's own faults come first, then those of its nodes, then those of the array
--- that it spells: an identifier that the context does not take, a limit on writing, or that a node of it is not written. Where
--- no plugin reads or writes, what is read is also written: then no node is without a writer, and there is no plugin to refuse.
+-- Why `recode` refuses: by the refusal. Allocation failure has no other cause. The blob's own faults come first, then
+-- those of its nodes, then those of the array that it spells: an identifier that the context does not take, a limit on
+-- writing, or a node of it that is not written. Where no plugin reads or writes, what is read is also written: then no
+-- node is without a writer, and no plugin refuses.
 abbrev pub Refuses : Request → WireError → Type 0
 Refuses asked OutOfMemory = Unit {0}
 Refuses asked TooShort = RefusesOpening (message_limits asked.options) TooShort asked.blob

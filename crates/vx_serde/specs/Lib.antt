@@ -16,6 +16,6 @@ pub mod Serializing
 pub mod ArrayNode
 pub mod Sums
 pub mod Recoding
--- What the contracts of private functions alone cite.
+-- What only the contracts of private functions cite.
 pub mod Blocks
 pub mod WritingSteps

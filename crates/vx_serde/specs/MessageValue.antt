@@ -25,8 +25,8 @@ descriptors_bytes [] = []
 descriptors_bytes (d ∷ ds) = descriptor_bytes d ++ descriptors_bytes ds
 
 abbrev mutual
-  -- A node as a table: metadata, children and buffers stand, empty or not, and statistics where the node has a table of
-  -- them.
+  -- A node as a table: metadata, children and buffers are present, empty or not, and statistics where the node has a
+  -- table of them.
   pub node_value : Rose NodeFields → Fields
   node_value (node f ts) =
       field (number f.encoding) (field (elements f.metadata) (field (tables (rows_value ts)) (field (elements (index_bytes f.buffers)) (field f.stats no_fields))))
@@ -36,11 +36,11 @@ abbrev mutual
   rows_value end = no_rows
   rows_value (more t ts) = row (node_value t) (rows_value ts)
 
--- A message as a table: its root and its descriptors stand.
+-- A message as a table: its root and its descriptors are present.
 abbrev pub message_value : Rose NodeFields → List Descriptor → Fields
 message_value root descriptors = field (table (node_value root)) (field (elements (descriptors_bytes descriptors)) no_fields)
 
--- A node whose indices fit two bytes each, and whose statistics stand in no field or in a table of their kind.
+-- A node whose indices fit two bytes each, and whose statistics are absent or a table of their kind.
 pub record IsNumberedNode (f : NodeFields) (ts : Roses NodeFields) : Type 0 where
   pub encoding : f.encoding < 2 ^ 16
   pub buffers : All (λ i. i < 2 ^ 16) f.buffers
@@ -53,6 +53,6 @@ pub record IsDescribed (d : Descriptor) : Type 0 where
   pub compression : d.compression < 2 ^ 8
   pub len : d.len < 2 ^ 32
 
--- A tree of nodes that a message can tell.
+-- A tree of nodes that a message can hold.
 abbrev pub IsNumbered : Rose NodeFields → Type 0
 IsNumbered = Everywhere IsNumberedNode

@@ -1,25 +1,24 @@
--- Where the buffers of a written blob go. Positions count from the offset at
--- which the blob is to stand.
+-- The places of the buffers of a written blob. Positions count from the offset at which the blob is to stand.
 use Rattle.std.specs.Prelude.{ℕ, ◌+◌, ◌-◌, ◌%◌, ◌^◌, List, [], ◌∷◌, ◌++◌, length, replicate, if◌then◌else◌}
 use Rattle.vx_buffer.specs.Buffer.{Buffer}
 use Rattle.vx_serde.specs.declared.options.SerializeOptions.{SerializeOptions}
 use Rattle.vx_serialized.specs.declared.message.Descriptor.{Descriptor}
 
--- The least number that makes a position a multiple of n when it is added.
+-- The least number that makes a position a multiple of n when it is added to it.
 abbrev pub gap_to : ℕ → ℕ → ℕ
 gap_to n position = (n - position % n) % n
 
--- The pad at a position, in front of what is aligned to two to this exponent:
--- up to the next such position where padding is asked, and else none.
+-- The pad at a position, before what is aligned to two to this exponent: up to the next such position where padding is
+-- asked for, and else none.
 abbrev pub pad : SerializeOptions → ℕ → ℕ → ℕ
 pad options exponent position = if options.include_padding then gap_to (2 ^ exponent) position else 0
 
--- The position where a buffer ends that may start, after its pad, at a position.
+-- The position where a buffer ends whose pad begins at a position.
 abbrev pub position_behind : SerializeOptions → ℕ → Buffer → ℕ
 position_behind options position b = position + pad options b.exponent position + length b.bytes
 
--- The descriptors of buffers of which the first may start at a position, and each
--- other where the one before it ends: each has its pad in front of it.
+-- The descriptors of buffers of which the first may start at a position, and each other where the one before it ends:
+-- each has its pad before it.
 abbrev pub descriptors_from : SerializeOptions → ℕ → List Buffer → List Descriptor
 descriptors_from options position [] = []
 descriptors_from options position (b ∷ bs) =

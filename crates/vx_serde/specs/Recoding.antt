@@ -22,19 +22,19 @@ pub record Product : Type 0 where
   pub buffers : List Buffer
   pub context : Context
 
--- What a call made, by its answer and its context.
+-- What a call made, by its result and its context.
 abbrev pub product : Recoded → Context → Product
 product recoded context = record { array = recoded.array; buffers = recoded.buffers; context = context }
 
--- The blob spells the array; the limits on reading were kept, and the buffers are those that the array is written as. They
--- spell it again where it returns, whatever encodings and plugins wrote.
+-- The blob spells the array; the limits on reading were kept, and the buffers are those that the array is written as.
+-- They spell it again where it returns, whatever encodings and plugins wrote.
 pub record IsRecoded (asked : Request) (made : Product) : Type 0 where
   pub spelled : IsSpelled asked made.array
   pub reader_limits : KeepsReaderLimits asked.options asked.blob
   pub serialized : IsSerialized asked.session made.array asked.options asked.context made.context made.buffers
   pub returned : ReturnsWhole asked.session asked.options made.array → IsSpelledAgain asked.session made.array made.context made.buffers
 
--- What a second call is asked that reads the new blob with the grown context, and writes from the context with which
+-- The request of a second call, which reads the new blob with the grown context, and writes from the context with which
 -- the first call began.
 abbrev pub asked_again : Request → Product → Request
 asked_again asked made = request_for (joined made.buffers) asked.dtype asked.len made.context.ids asked.context asked.session asked.options
@@ -46,9 +46,9 @@ pub record IsTwiceAsOnce (asked : Request) (made : Product) : Type 0 where
   pub context : grown codec asked.session asked.context (canon codec asked.session made.array) ≡ Some made.context
   pub can : CanRecode (asked_again asked made)
 
--- The blob spells no other array; it is written as it stands; the new blob spells what is read back of it, read with the grown
--- context: the same array, but that each sum that is no number is the one NaN of its width; and recoding it again changes
--- nothing.
+-- The blob spells no other array, and the array is written unchanged. The new blob spells what is read back of it, read
+-- with the grown context: the same array, but that each sum that is no number is the one NaN of its width. Recoding it
+-- again changes nothing.
 pub record IsFaithful (asked : Request) (made : Product) : Type 0 where
   pub own : as_written asked.session asked.options made.array ≡ made.array
   pub the_one : (other : Tree) → IsSpelled asked other → other ≡ made.array
@@ -56,16 +56,16 @@ pub record IsFaithful (asked : Request) (made : Product) : Type 0 where
   pub sums : canon codec asked.session made.array ≡ sums_canonical made.array
   pub twice : IsTwiceAsOnce asked made
 
--- The context keeps what it had, and what comes to it at its end are identifiers of an array that the blob spells, as it is
--- written.
+-- The context keeps what it had, and only identifiers of an array that the blob spells, as it is written, come to its
+-- end.
 pub record KeepsOfSpelled (asked : Request) (after : Context) : Type 0 where
   pub array : Tree
   pub spelled : IsSpelled asked array
   pub kept : KeepsContext (ids_in (wire codec asked.session (as_written asked.session asked.options array))) asked.context after
 
--- What a call leaves of the context, whatever it answers: the context keeps what it had, and what comes to it at its
--- end are identifiers of an array that the blob spells, as it is written; where no plugin reads or writes, of the one that it
--- spells, as it stands. So where the blob spells none, nothing comes.
+-- What a call leaves of the context, whatever it answers: the context keeps what it had, and only identifiers of an
+-- array that the blob spells, as it is written, come to its end; where no plugin reads or writes, only those of the
+-- array itself. So where the blob spells none, nothing comes.
 pub record LeavesContext (asked : Request) (after : Context) : Type 0 where
   pub some : (after ≡ asked.context) ⊎ KeepsOfSpelled asked after
   pub kept : IsShipped asked.session → (array : Tree) → IsSpelled asked array → KeepsContext (ids_in (wire codec asked.session array)) asked.context after

@@ -43,7 +43,7 @@ abbrev pub IsSpelled : Request → Tree → Type 0
 IsSpelled asked array = Spells asked.blob asked.ids asked.dtype asked.len asked.session array
 
 -- What is asked can be done: the blob spells an array, the limits on reading and writing hold, and the context takes
--- the array's identifiers. It is said of sessions in which no plugin reads or writes.
+-- the array's identifiers. This is used for sessions in which no plugin reads or writes.
 pub record CanRecode (asked : Request) : Type 0 where
   pub array : Tree
   pub spelled : IsSpelled asked array

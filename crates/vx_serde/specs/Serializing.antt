@@ -19,10 +19,10 @@ use Rattle.vx_serde.specs.Limits.{most_levels}
 use Rattle.vx_serde.specs.Spells.{Spells, KeepsWriterLimits, blob_of, blob_buffers}
 use Rattle.vx_serde.specs.Taking.{as_written}
 
--- The buffers, one after the other, are the blob of a tree that is written, under the context that is grown by it. They come
--- as an empty one of the greatest alignment, then the pads, the data, the message and its length. Each node's statistics can
--- be stored; the limits on writing were kept, and where padding is asked, each data buffer that the blob tells begins at a
--- position of its alignment.
+-- The buffers, one after the other, are the blob of a tree that is written, under the context that is grown by it. They
+-- are an empty one of the greatest alignment, then the pads, the data, the message and its length. Each node's
+-- statistics can be stored; the limits on writing were kept, and where padding is asked for, each data buffer that the
+-- blob describes begins at a position of its alignment.
 pub record IsWrittenBlob (s : SessionMeaning) (tree : Tree) (options : SerializeOptions) (before after : Context) (buffers : List Buffer) : Type 0 where
   pub written : joined buffers ≡ blob_of s tree before options
   pub buffers_are : buffers ≡ blob_buffers s tree before options
@@ -36,8 +36,8 @@ pub record IsSerialized (s : SessionMeaning) (array : Tree) (options : Serialize
   pub taken : IsTaken s (most_levels options) array
   pub blob : IsWrittenBlob s (as_written s options array) options before after buffers
 
--- An array is its own canon, and as it is written it is read again: each node is read by what wrote it, and the arrays that
--- plugins gave are their own canons, too.
+-- An array is its own canon, and what is written of it is read again: each node is read by what wrote it, and the
+-- arrays that plugins gave are their own canons, too.
 pub record ReturnsWhole (s : SessionMeaning) (options : SerializeOptions) (array : Tree) : Type 0 where
   pub own : IsOwnCanon codec s array
   pub returns : Returns codec s (most_levels options) array

@@ -20,9 +20,8 @@ use Rattle.vx_serde.specs.Limits.{message_limits}
 use Rattle.vx_serde.specs.Written.{blob_bytes, IsWritable}
 use Rattle.vx_serde.specs.WrittenBuffers.{written_buffers}
 
--- A blob spells an array at a type and a length, with identifiers to read by:
--- it carries a wire tree, under clean descriptors, which tells the array at that
--- type and length. So nothing is missing from the tree.
+-- A blob spells an array at a type and a length, with identifiers to read by: it carries a wire tree, under clean
+-- descriptors, that decodes to the array at that type and length. So nothing is missing from the tree.
 pub record Spells (blob : List ℕ) (ids : List (List ℕ)) (d : Typ) (n : ℕ) (s : SessionMeaning) (t : Tree) : Type 0 where
   pub wire : Wire
   pub carried : Carries blob ids wire
@@ -33,7 +32,7 @@ pub record Spells (blob : List ℕ) (ids : List (List ℕ)) (d : Typ) (n : ℕ) 
 pub record KeepsReaderLimits (options : SerializeOptions) (blob : List ℕ) : Type 0 where
   pub within_limits : (segment message : List ℕ) → IsBlob blob segment message → KeepsLimits (message_limits options) (weight array_schema message)
 
--- The identifiers by which an array is written that is written under a context.
+-- The identifiers by which an array is written under a context.
 abbrev pub ids_after : SessionMeaning → Tree → Context → List (List ℕ)
 ids_after s t ctx = with_ids ctx.ids (ids_in (wire codec s t))
 
@@ -45,8 +44,8 @@ blob_of s t ctx options = blob_bytes (ids_after s t ctx) options (wire codec s t
 abbrev pub blob_buffers : SessionMeaning → Tree → Context → SerializeOptions → List Buffer
 blob_buffers s t ctx options = written_buffers (ids_after s t ctx) options (wire codec s t)
 
--- An array keeps the limits on writing under a context: the metadata of each node fits its message, and its wire
--- tree is written.
+-- An array keeps the limits on writing under a context: the metadata of each node fits its message, and its wire tree
+-- is written.
 pub record KeepsWriterLimits (s : SessionMeaning) (t : Tree) (ctx : Context) (options : SerializeOptions) : Type 0 where
   pub messages : HasMessages t
   pub writable : IsWritable (ids_after s t ctx) options (wire codec s t)

@@ -1,4 +1,4 @@
--- The nodes kept below one are smaller than it, as the check asks for it.
+-- The nodes kept below one are smaller than it: the measure of recursions.
 use Rattle.std.specs.Prelude.{Option, Some, None, Vec, ◌+◌, ◌≤◌}
 use Rattle.std.specs.Global.{Global}
 use Rattle.std.proofs.Common.{arith}

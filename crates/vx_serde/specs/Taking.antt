@@ -20,7 +20,7 @@ use Rattle.vx_serde.specs.declared.taken.Source.TheVariants.{Borrowed, Held}
 use Rattle.vx_serde.specs.declared.taken.TakenRoot.{TakenRoot}
 use Rattle.vx_serde.specs.Limits.{most_levels}
 
--- An array as it is written: node by node as it stands, or as its plugin gives it, down to one level below the last that may
+-- An array as it is written: each node unchanged, or as its plugin gives it, down to one level below the last that may
 -- be written.
 abbrev pub as_written : SessionMeaning → SerializeOptions → Tree → Tree
 as_written s options t = taken s (most_levels options) t
@@ -34,22 +34,22 @@ source_tree (Held array) = array.value
 abbrev pub own_parts : GivenParts → Parts
 own_parts g = record { id = g.id; metadata = g.metadata; buffers = g.buffers; children = end }
 
--- A node as it is written: as it stands, or as a plugin gives it.
+-- A node as it is written: unchanged, or as a plugin gives it.
 abbrev pub taken_head : Head → Option (Box GivenParts Global) → Head
 taken_head h None = h
 taken_head h (Some g) = given_head h (own_parts g.value)
 
--- The nodes below it: the array's own children as they stand, or those that were taken.
+-- The nodes below it: the array's own children unchanged, or those that were taken.
 abbrev pub taken_below : Trees → Option (Vec Tree Global) → Trees
 taken_below ts None = ts
 taken_below ts (Some us) = roses_of us.items
 
--- Below a node that is written as it stands, nodes stand where the array's children do.
+-- Below a node that is written unchanged, nodes stand where the array's children do.
 abbrev pub StandsAs : Option (Box GivenParts Global) → Trees → Trees → Type 0
 StandsAs None us ts = places us ≡ places ts
 StandsAs (Some g) us ts = Unit {0}
 
--- A root's node, as it stands or as a plugin gives it,
+-- A root's node, unchanged or as a plugin gives it,
 abbrev pub root_head : Head → Option ArraySerialization → Head
 root_head h None = h
 root_head h (Some p) = given_head h (parts_in p)
@@ -67,17 +67,17 @@ root_node r = root_head (label (source_tree r.source)) r.given
 abbrev pub root_arrays : TakenRoot → Trees
 root_arrays r = root_below (below (source_tree r.source)) r.given
 
--- A root is written as it stands, over its array's own children as they stand.
+-- A root is written unchanged, over its array's own children unchanged.
 pub record IsOwn (r : TakenRoot) (us : List Tree) : Type 0 where
   pub ungiven : r.given ≡ None
   pub children_are : us ≡ roses_list (below (source_tree r.source))
 
--- Nodes are those that are taken of arrays where there is room for n levels, and each of these is taken.
+-- Nodes are those that are taken of arrays where there is room for n levels, and each of these arrays is taken.
 pub record AreTaken (s : SessionMeaning) (n : ℕ) (arrays nodes : List Tree) : Type 0 where
   pub made : nodes ≡ map (λ t. taken s n t) arrays
   pub written_each : Each (λ t. IsTaken s n t) (roses_of arrays)
 
--- Nodes have at most so many levels, and their metadata fits its messages.
+-- Nodes have at most n levels, and their metadata fits its messages.
 pub record AreWithinLevels (n : ℕ) (nodes : List Tree) : Type 0 where
   pub levels_are : levels_below (roses_of nodes) ≤ n
   pub messages : EverywhereBelow HasMessage (roses_of nodes)
@@ -88,7 +88,7 @@ pub record IsRootAt (s : SessionMeaning) (arrays : Trees) (i : ℕ) (h : Head) (
   pub stands : slice_get (roses_list arrays) i ≡ Some array
   pub step_is : step s array ≡ written h ts
 
--- Why a node is not written, by the refusal that tells it.
+-- Why a node is not written, by the refusal for it.
 abbrev pub unwritten_by : WireError → Option Unwritten
 unwritten_by NotRegistered = Some unregistered
 unwritten_by NotSerializable = Some unserializable
@@ -96,14 +96,15 @@ unwritten_by UndeclaredId = Some undeclared
 unwritten_by PluginRefused = Some unwilling
 unwritten_by _ = None
 
--- Why the nodes of an array are not written, where there is room for n levels: by the refusal. There are more levels than
--- that, or the metadata of a node does not fit its message; or a node is not written for the cause that is told.
+-- Why the nodes of an array are not written, where there is room for n levels: by the refusal. There are more levels,
+-- or the metadata of a node does not fit its message; or a node is not written, for the cause that the refusal stands
+-- for.
 abbrev pub RefusesTaking : SessionMeaning → ℕ → Tree → WireError → Type 0
 RefusesTaking s n t OutOfMemory = Unit {0}
 RefusesTaking s n t WireLimit = (n < levels (taken s n t)) ⊎ (HasMessages (taken s n t) → ⊥)
 RefusesTaking s n t e = IsSomeAnd (unwritten_by e) (λ why. HasUntaken s n why t)
 
--- Why the nodes of one of several arrays are not.
+-- Why the nodes of one of several arrays are not written.
 abbrev pub RefusesOneOf : SessionMeaning → ℕ → Trees → WireError → Type 0
 RefusesOneOf s n ts OutOfMemory = Unit {0}
 RefusesOneOf s n ts WireLimit = (n < levels_below (each (taken s n) ts)) ⊎ (EverywhereBelow HasMessage (each (taken s n) ts) → ⊥)

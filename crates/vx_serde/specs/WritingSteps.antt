@@ -26,8 +26,8 @@ use Rattle.vx_serde.specs.Numbered.{numbered}
 use Rattle.vx_serde.specs.Placing.{descriptors_from, data_end}
 use Rattle.vx_wire_tree.specs.Limits.{IsWritableTree}
 
--- The limits that a tree keeps before its message is known: those on the tree, and one
--- on the position where the last of its buffers ends.
+-- The limits that a tree keeps before its message is known: those on the tree, and one on the position where the last
+-- of its buffers ends.
 pub record KeepsTreeLimits (options : SerializeOptions) (w : Wire) : Type 0 where
   pub tree : IsWritableTree (most_levels options) w
   pub ends : data_end options options.offset (buffers_in w) < 2 ^ 64
@@ -38,7 +38,8 @@ pub record IsLaidOut (options : SerializeOptions) (w : Wire) (descriptors : List
   pub descriptors_are : descriptors ≡ descriptors_bytes (descriptors_from options options.offset (buffers_in w))
   pub last_is : last ≡ data_end options options.offset (buffers_in w)
 
--- The bytes of a message are refused for allocation failure, or because they are too many or weigh more than limits allow.
+-- Why the bytes of a message are refused: allocation failed, they are too many, or they weigh more than the limits
+-- allow.
 abbrev pub RefusesBytes : Limits → List ℕ → WireError → Type 0
 RefusesBytes most message OutOfMemory = Unit {0}
 RefusesBytes most message WireLimit = length message < 2 ^ 31 → KeepsLimits most (weight array_schema message) → ⊥
@@ -48,7 +49,7 @@ RefusesBytes most message _ = ⊥
 abbrev pub AreDescriptors : List ℕ → Type 0
 AreDescriptors bytes = (ds : List Descriptor) × (bytes ≡ descriptors_bytes ds)
 
--- The message of a wire tree and of descriptors' bytes, where these are the identifiers.
+-- The message of a wire tree and of descriptors' bytes, with these identifiers.
 abbrev pub layout_of : List (List ℕ) → Wire → List ℕ → List ℕ
 layout_of ids w bytes = written_layout array_schema (field (table (node_value (numbered ids 0 w))) (field (elements bytes) no_fields))
 
@@ -59,14 +60,14 @@ builder_refusal _ = tables.MessageTooLong
 
 -- ---- nodes
 
--- Identifiers are not taken for allocation failure, or because the context does not take one of them.
+-- Why identifiers are not taken: allocation failed, or the context does not take one of them.
 abbrev pub RefusesIds : List (List ℕ) → Context → WireError → Type 0
 RefusesIds ids c OutOfMemory = Unit {0}
 RefusesIds ids c NotPermitted = grown_by ids c ≡ None
 RefusesIds ids c _ = ⊥
 
--- A tree is not laid out because its identifiers are not taken, or because it passes one of the limits that are known before
--- its message.
+-- Why a tree is not laid out: its identifiers are not taken, or it passes one of the limits that are known before its
+-- message.
 abbrev pub RefusesLayout : SessionMeaning → SerializeOptions → Tree → Context → WireError → Type 0
 RefusesLayout s options t c WireLimit = KeepsTreeLimits options (wire codec s t) → ⊥
 RefusesLayout s options t c e = RefusesIds (ids_in (wire codec s t)) c e

@@ -13,25 +13,25 @@ use Rattle.vx_wire_tree.specs.Wire.{Wire, buffers_in}
 use Rattle.vx_serde.specs.Numbered.{numbered}
 use Rattle.vx_serde.specs.Placing.{pad, descriptors_from, data_from, data_end}
 
--- The array message of a tree: its nodes with the identifiers' places in ids and
--- the buffers numbered from 0 on, and the descriptors of the buffers.
+-- The array message of a tree: its nodes with the places of their identifiers in ids and with buffers numbered from 0
+-- on, and the descriptors of the buffers.
 abbrev pub message_bytes : List (List ℕ) → SerializeOptions → Wire → List ℕ
 message_bytes ids options w =
     written_layout array_schema (message_value (numbered ids 0 w) (descriptors_from options options.offset (buffers_in w)))
 
--- The pad in front of the message, which is aligned to 8 and stands in no descriptor.
+-- The pad before the message, which is aligned to 8; no descriptor holds it.
 abbrev pub message_pad : SerializeOptions → Wire → ℕ
 message_pad options w = pad options 3 (data_end options options.offset (buffers_in w))
 
--- The blob: the buffers in preorder, each after its pad, the message after its
--- own, and the message's length as a word of four bytes.
+-- The blob: the buffers in preorder, each after its pad, the message after its own, and the message's length as a word
+-- of four bytes.
 abbrev pub blob_bytes : List (List ℕ) → SerializeOptions → Wire → List ℕ
 blob_bytes ids options w =
     data_from options options.offset (buffers_in w)
     ++ (replicate (message_pad options w) 0 ++ (message_bytes ids options w ++ to_le_bytes w32 (length (message_bytes ids options w))))
 
--- The limits on writing: those on the tree; a message of at most 2^31 - 1 bytes that a
--- reader's limits admit; and an end within the positions of 64 bits.
+-- The limits on writing: those on the tree; a message of at most 2^31 - 1 bytes that the limits on reading admit; and
+-- an end within the positions of 64 bits.
 pub record IsWritable (ids : List (List ℕ)) (options : SerializeOptions) (w : Wire) : Type 0 where
   pub tree : IsWritableTree (most_levels options) w
   pub short : length (message_bytes ids options w) ≤ 2 ^ 31 - 1

@@ -27,9 +27,9 @@ abbrev pub greatest_exponent : ℕ → List Buffer → ℕ
 greatest_exponent n [] = n
 greatest_exponent n (b ∷ bs) = greatest_exponent (max n b.exponent) bs
 
--- The buffers of a blob: an empty one with the greatest alignment of the tree's buffers,
--- at least 8 bytes; the data, each buffer after its pad; the message after its own;
--- and the message's length. All but the first have no alignment, and no pad is empty.
+-- The buffers of a blob: an empty one with the greatest alignment of the tree's buffers, at least 8 bytes; the data,
+-- each buffer after its pad; the message after its own; and the message's length. All but the first have no alignment,
+-- and no pad is empty.
 abbrev pub written_buffers : List (List ℕ) → SerializeOptions → Wire → List Buffer
 written_buffers ids options w =
     record { bytes = []; exponent = greatest_exponent 3 (buffers_in w) }

@@ -27,7 +27,9 @@ use vx_flat::{Builder, LinkKind};
 use vx_registry::{ArrayContext, VortexSession};
 use vx_serialized::WireError;
 
-/// An array as a node of a message that a caller builds block by block. Its encodings are named by a context.
+/// An array as a node of a message that a caller builds block by block. A context numbers the identifiers of its
+/// encodings. The message is the caller's, so its weight is the caller's to judge, and the limits here are those
+/// without `deep`.
 #[derive(Drop)]
 pub struct ArrayNodeFlatBuffer<'a> {
     ctx: &'a mut ArrayContext,
@@ -40,9 +42,9 @@ impl<'a> ArrayNodeFlatBuffer<'a> {
     ///
     /// # Errors
     /// `WireLimit` where the array as it is written has over 62 levels or a node's metadata does not fit its message;
-    /// `NotRegistered` where nothing writes the arrays of a node's encoding, or a node is foreign and the session does not
-    /// allow such nodes; and `NotSerializable`, `UndeclaredId` and `PluginRefused` where the plugin that writes a node has no
-    /// form for it, names an identifier that it does not declare, or refuses it.
+    /// `NotRegistered` where nothing writes the arrays of a node's encoding, or a node is foreign and the session does
+    /// not allow such nodes; and `NotSerializable`, `UndeclaredId` and `PluginRefused` where the plugin that writes a
+    /// node has no form for it, names an identifier that it does not declare, or refuses it.
     pub fn try_new(
         alloc: Global,
         ctx: &'a mut ArrayContext,
@@ -77,9 +79,9 @@ impl<'a> ArrayNodeFlatBuffer<'a> {
     ///
     /// # Errors
     /// `NotPermitted` where the context does not take an identifier, and `WireLimit` where the array passes a limit on
-    /// writing or the builder's message would be too long or was before. After each of them the context keeps what it had and
-    /// may have taken identifiers of the array, and the builder keeps the blocks that it has and those that were written so
-    /// far; where its message would be too long it has failed, and each later call of it is refused.
+    /// writing or the builder's message would be too long or was before. After each of them the context keeps what it
+    /// had and may have taken identifiers of the array, and the builder keeps its blocks, with those that were written
+    /// so far. A builder whose message would be too long has failed, and each later call of it is refused.
     pub fn try_write_flatbuffer(
         &mut self,
         alloc: Global,
@@ -101,8 +103,8 @@ impl<'a> ArrayNodeFlatBuffer<'a> {
     }
 }
 
-// Takes the identifiers of an array that is written into the context in preorder, and writes the blocks of its nodes after
-// those that the builder has, the root's first.
+// Takes the identifiers of an array that is written into the context in preorder, and writes the blocks of its nodes
+// after those that the builder has, the root's first.
 fn write_into(
     alloc: Global,
     array: &NodeRef<'_, '_>,

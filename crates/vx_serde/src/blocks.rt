@@ -1,4 +1,4 @@
-//! Blocks of a message that hang on a node.
+//! Blocks of a message that a node's block links to.
 
 ghost use Rattle.std.specs.Prelude.{◌≡◌, ◌%◌, ◌<◌, ◌∷◌, [], true, length, OnOk, IfErr};
 ghost use Rattle.vx_flat.specs.Building.{AreWritten, Takes, RefusesPieces};
@@ -18,7 +18,7 @@ pub(crate) const TABLE: BlockField = BlockField::Link(LinkKind::Table);
 /// The entry of a field that is a vector.
 pub(crate) const VECTOR: BlockField = BlockField::Link(LinkKind::Vector);
 
-/// The entry of the number of a node's encoding, which is left out where it is 0.
+/// The entry of the number of a node's encoding, which is absent where it is 0, the default of tables.
 pub(crate) fn encoding_entry(number: u16) -> BlockField
     ensures { result ≡ default_entry 2 number }
 {
@@ -31,7 +31,7 @@ pub(crate) fn encoding_entry(number: u16) -> BlockField
     }
 }
 
-/// Writes a vector of numbers or structs of so many bytes each.
+/// Writes a vector of numbers or structs of `width` bytes each.
 pub(crate) fn write_elements(
     width: u8,
     bytes: &[u8],
@@ -64,8 +64,8 @@ pub(crate) fn write_statistics(
     }
 }
 
-/// The refusal of a set of statistics that fit, as its builder's: besides allocation failure there is no other than that
-/// the message would be too long.
+/// The refusal of a set of statistics that fit, as its builder's. Besides allocation failure, only a message that would
+/// be too long is refused.
 fn as_flat_error(error: ScalarWireError) -> FlatError
     ensures { result ≡ builder_refusal error }
 {

@@ -22,7 +22,7 @@ impl<'a> Model for BorrowedBuffers<'a> {
 }
 
 impl<'a> BorrowedBuffers<'a> {
-    /// No buffer.
+    /// The empty list, which takes no memory.
     pub(crate) fn new(alloc: Global) -> BorrowedBuffers<'a>
         ensures { result ≡ [] }
     {
@@ -31,7 +31,7 @@ impl<'a> BorrowedBuffers<'a> {
         }
     }
 
-    /// One more buffer at the end.
+    /// Appends a buffer.
     pub(crate) fn push(&mut self, buffer: &'a BufferHandle) -> Result<(), BufferError>
         ensures { OnOk result (self.new ≡ self.old ++ buffer.now ∷ []) }
     {
@@ -39,14 +39,14 @@ impl<'a> BorrowedBuffers<'a> {
         Ok(())
     }
 
-    /// How many buffers there are.
+    /// The number of buffers.
     pub(crate) fn len(&self) -> usize
         ensures { result ≡ length self.now }
     {
         self.items.len()
     }
 
-    /// The buffer at this place.
+    /// The buffer at this index.
     pub(crate) fn get(&self, index: usize) -> &'a BufferHandle
         requires { index < length self.now }
         ensures { result.now ≡ get_or self.now index result.now }

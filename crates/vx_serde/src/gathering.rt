@@ -1,4 +1,4 @@
-//! What the nodes of an array bring along when it is written: their buffers, and the numbers of their encodings.
+//! The buffers of the nodes of an array that is written, and the numbers of their encodings.
 
 ghost use Rattle.std.specs.Prelude.{◌≡◌, ◌++◌, ◌∷◌, [], ℕ, List, Some, OnOk, IfOk, IfErr};
 ghost use Rattle.vx_trees.specs.Rose.{label};
@@ -28,7 +28,7 @@ pub(crate) struct Gathered<'a> {
 }
 
 impl<'a> Gathered<'a> {
-    /// Those of no node.
+    /// No buffers and no numbers, before the first node.
     pub(crate) fn new(alloc: Global) -> Gathered<'a>
         ensures buffers { result.buffers ≡ [] }
         ensures encodings { result.encodings.items ≡ [] }
@@ -62,7 +62,7 @@ fn encoding_number(
     }
 }
 
-/// The buffers of an array's root, after those that were found.
+/// Appends the buffers of an array's root.
 fn push_own<'a>(array: &NodeRef<'a, '_>, found: &mut BorrowedBuffers<'a>) -> Result<(), BufferError>
     ensures { OnOk result (found.new ≡ found.old ++ buffers_of (label array.now).body) }
 {
@@ -72,7 +72,7 @@ fn push_own<'a>(array: &NodeRef<'a, '_>, found: &mut BorrowedBuffers<'a>) -> Res
     Ok(())
 }
 
-/// What an array's root brings along, after what was found.
+/// Appends the buffers of an array's root, and the number of its encoding.
 fn push_root<'a>(
     alloc: Global,
     array: &NodeRef<'a, '_>,
@@ -92,8 +92,9 @@ fn push_root<'a>(
     Ok(())
 }
 
-/// What an array's nodes bring along in preorder, after what was found. Their identifiers are taken into the context
-/// in preorder; primitives have two (`two`) or one. `NotPermitted` where the context does not take an identifier.
+/// Appends the buffers of an array's nodes and the numbers of their encodings, in preorder. The identifiers are taken
+/// into the context in preorder; `two` says whether primitives have two. `NotPermitted` where the context does not take
+/// one.
 #[tactic(auto, using(vx_trees::proofs::Roses::roses))]
 pub(crate) fn gather<'a>(
     alloc: Global,

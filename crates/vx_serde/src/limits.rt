@@ -9,23 +9,24 @@ use crate::options::SerializeOptions;
 use vx_buffer::BufferHandle;
 use vx_serialized::Descriptor;
 
-/// How many levels of nodes a written tree may have.
+/// The greatest number of levels of a written tree. It is two below the 64 tables that may nest, as the message and the
+/// statistics of the lowest node are tables, too.
 pub(crate) const MAX_LEVELS: usize = 62;
 
-/// How many it may have where deep trees are asked for.
+/// The greatest number of levels where deep trees are asked for.
 const MAX_LEVELS_DEEP: usize = 126;
 
-/// How many buffers a written tree may have.
+/// The greatest number of buffers of a written tree: nodes name them by a u16.
 pub(crate) const MAX_BUFFERS: usize = 65_535;
 
-/// How many nodes a written tree may have: a message is a table, each node another one, and its statistics too, and
-/// there are at most 1,000,000 tables in a message.
+/// The greatest number of nodes of a written tree. A message is a table, each node another one, and so are its
+/// statistics, and a message has at most 1,000,000 tables.
 pub(crate) const MAX_NODES: usize = 499_999;
 
-/// How many bytes a written buffer may have.
+/// The greatest length of a written buffer in bytes, as a descriptor's length has four.
 pub(crate) const MAX_BUFFER_LEN: usize = 4_294_967_295;
 
-/// How many levels of nodes a tree may have that is written by these options.
+/// The greatest number of levels of a tree that is written by these options.
 pub(crate) fn most_levels(options: &SerializeOptions) -> usize
     ensures { result ≡ levels_by options.now }
 {
@@ -35,7 +36,7 @@ pub(crate) fn most_levels(options: &SerializeOptions) -> usize
     MAX_LEVELS
 }
 
-/// Whether a descriptor can tell a buffer.
+/// Whether a descriptor can describe a buffer, by its exponent and its length.
 fn is_describable(buffer: &BufferHandle) -> bool
     ensures { IsTrue result ↔ IsDescribable buffer.now }
 {
@@ -45,7 +46,7 @@ fn is_describable(buffer: &BufferHandle) -> bool
     buffer.len() <= MAX_BUFFER_LEN
 }
 
-/// Whether a descriptor can tell each of these buffers: its exponent and its length.
+/// Whether descriptors can describe each of these buffers.
 pub(crate) fn are_describable(buffers: &BorrowedBuffers<'_>) -> bool
     ensures { IsTrue result ↔ AreDescribable buffers.now }
 {

@@ -1,4 +1,4 @@
-//! Nodes that are written, borrowed: arrays as they stand, or nodes as they were taken.
+//! Nodes that are written, borrowed: arrays that are written unchanged, or nodes that were taken.
 
 ghost use Rattle.std.specs.Prelude.{◌≡◌, ◌<◌, Some, length, get_or, slice_get, IfOk, IsOkUnless};
 ghost use Rattle.vx_trees.specs.Rose.{label, below, roses_of};
@@ -19,14 +19,15 @@ use vx_scalars::StatsSet;
 use vx_serialized::WireError;
 use vx_types::{Blob, Id};
 
-/// What stands after a node: an array, which is written as it stands, or a node that was taken.
+/// A node that is written, behind a reference: an array, which is written unchanged, or a node that was taken.
 #[derive(Drop)]
 enum Borrowed<'n, 'a> {
     Own(&'n Array),
     Taken(&'n TakenNode<'a>),
 }
 
-/// A node that is written, borrowed. Contracts see the tree that is written.
+/// A node that is written, borrowed. An array that is written unchanged needs no copy of its nodes, so both kinds are
+/// references. Contracts see the tree that is written.
 #[derive(Drop)]
 pub(crate) struct NodeRef<'n, 'a> {
     node: Borrowed<'n, 'a>,
@@ -54,7 +55,7 @@ impl<'n, 'a> NodeRef<'n, 'a> {
         }
     }
 
-    /// An array as it stands.
+    /// An array that is written unchanged.
     fn own(array: &'n Array) -> NodeRef<'n, 'a>
         ensures { result ≡ array.now }
     {
@@ -63,7 +64,7 @@ impl<'n, 'a> NodeRef<'n, 'a> {
         }
     }
 
-    /// The identifier under which the node is written, where primitives are written under two or not.
+    /// The identifier under which the node is written; `two` says whether primitives have two.
     pub(crate) fn written_id(&self, alloc: Global, two: bool) -> Result<Id, WireError>
         ensures ok { IfOk result (λ id. id ≡ array_id two self.now) }
         ensures err { IsOkUnless result WireError.OutOfMemory }
@@ -77,7 +78,7 @@ impl<'n, 'a> NodeRef<'n, 'a> {
         }
     }
 
-    /// The bytes of its metadata.
+    /// The bytes of the node's metadata.
     pub(crate) fn metadata(&self, alloc: Global) -> Result<Blob, WireError>
         ensures ok { IfOk result (λ bytes. bytes ≡ message_bytes (told (metadata_in (label self.now) (below self.now)))) }
         ensures err { IsOkUnless result WireError.OutOfMemory }
@@ -88,7 +89,7 @@ impl<'n, 'a> NodeRef<'n, 'a> {
         }
     }
 
-    /// How many buffers it has itself.
+    /// The number of the node's own buffers.
     pub(crate) fn nbuffers(&self) -> usize
         ensures { result ≡ length (buffers_of (label self.now).body) }
     {
@@ -98,7 +99,7 @@ impl<'n, 'a> NodeRef<'n, 'a> {
         }
     }
 
-    /// Its buffer at this place.
+    /// The node's own buffer at this index.
     pub(crate) fn buffer(&self, i: usize) -> &'n BufferHandle
         requires { i < length (buffers_of (label self.now).body) }
         ensures { slice_get (buffers_of (label self.now).body) i ≡ Some result.now }
@@ -109,7 +110,7 @@ impl<'n, 'a> NodeRef<'n, 'a> {
         }
     }
 
-    /// Its statistics.
+    /// The node's statistics.
     pub(crate) fn statistics(&self) -> &'n StatsSet
         ensures stats { result.now ≡ (label self.now).stats }
         ensures fits { FitStats (label self.now).dtype (label self.now).stats }
@@ -120,7 +121,7 @@ impl<'n, 'a> NodeRef<'n, 'a> {
         }
     }
 
-    /// The nodes below it.
+    /// The nodes right below it.
     pub(crate) fn children(&self) -> NodeRefs<'n, 'a>
         ensures children { roses_of result ≡ below self.now }
     {
@@ -131,14 +132,14 @@ impl<'n, 'a> NodeRef<'n, 'a> {
     }
 }
 
-/// What stands after nodes that lie beside each other.
+/// Nodes that are written, in one slice: arrays that are written unchanged, or nodes that were taken.
 #[derive(Drop)]
 enum BorrowedNodes<'n, 'a> {
     Own(&'n [Array]),
     Taken(&'n [TakenNode<'a>]),
 }
 
-/// Nodes that are written, beside each other, borrowed. Contracts see the trees that are written.
+/// Nodes that are written, in one slice, borrowed. Contracts see the trees that are written.
 #[derive(Drop)]
 pub(crate) struct NodeRefs<'n, 'a> {
     nodes: BorrowedNodes<'n, 'a>,
@@ -168,7 +169,7 @@ impl<'n, 'a> NodeRefs<'n, 'a> {
         }
     }
 
-    /// Arrays as they stand.
+    /// Arrays that are written unchanged.
     pub(crate) fn own(arrays: &'n [Array]) -> NodeRefs<'n, 'a>
         ensures { result ≡ arrays.now }
     {
@@ -177,7 +178,7 @@ impl<'n, 'a> NodeRefs<'n, 'a> {
         }
     }
 
-    /// How many there are.
+    /// The number of nodes.
     pub(crate) fn len(&self) -> usize
         ensures { result ≡ length self.now }
     {
@@ -187,7 +188,7 @@ impl<'n, 'a> NodeRefs<'n, 'a> {
         }
     }
 
-    /// The node at this place.
+    /// The node at this index.
     pub(crate) fn get(&self, i: usize) -> NodeRef<'n, 'a>
         requires { i < length self.now }
         ensures { result ≡ get_or self.now i result }
@@ -199,7 +200,7 @@ impl<'n, 'a> NodeRefs<'n, 'a> {
     }
 }
 
-/// The item of a slice at this place.
+/// The item of a slice at this index.
 pub(crate) fn item_at<T>(items: &[T], i: usize) -> &T
     requires { i < length items.now }
     ensures { result.now ≡ get_or items.now i result.now }

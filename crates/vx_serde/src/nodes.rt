@@ -1,5 +1,5 @@
-//! The nodes of an array as blocks of a message: encodings by given numbers, buffers by their
-//! numbers in preorder.
+//! The nodes of an array as blocks of a message: their encodings by given numbers, their buffers by numbers in
+//! preorder.
 
 ghost use Rattle.std.specs.Prelude.{◌≡◌, ◌+◌, ◌≤◌, ◌<◌, ◌^◌, length, get_or, IfOk, IfErr, OnOk, IsOkUnless};
 ghost use Rattle.vx_trees.specs.Everywhere.{EverywhereBelow};
@@ -24,14 +24,14 @@ use std::alloc::{AllocError, Global};
 use vx_flat::{BlockVector, Builder, FlatError, LinkKind};
 use vx_types::Blob;
 
-/// How many nodes, and how many buffers, come before the next ones in preorder.
+/// The number of nodes, and the number of buffers, before the next ones in preorder.
 #[derive(Drop)]
 pub(crate) struct Passed {
     pub(crate) nodes: usize,
     pub(crate) buffers: usize,
 }
 
-/// What the blocks of a node itself tell: the number of its encoding, its metadata, and the numbers of its buffers.
+/// The parts of a node's own blocks: the number of its encoding, its metadata, and the numbers of its buffers.
 #[derive(Drop)]
 struct NodeParts {
     encoding: u16,
@@ -39,7 +39,7 @@ struct NodeParts {
     buffers: Vec<u8>,
 }
 
-/// This many numbers from the first on, in two bytes each.
+/// The `count` numbers from `first` on, in two bytes each.
 fn number_bytes(alloc: Global, first: usize, count: usize) -> Result<Vec<u8>, AllocError>
     requires { first + count ≤ 65535 }
     ensures { IfOk result (λ v. v.items ≡ index_bytes (numbers_from first count)) }
@@ -51,8 +51,8 @@ fn number_bytes(alloc: Global, first: usize, count: usize) -> Result<Vec<u8>, Al
     Ok(bytes)
 }
 
-/// The parts of a root, which is passed by. That its metadata fits its message was judged where the nodes were taken,
-/// so allocation failure is what is left.
+/// The parts of a root, which is then counted as passed. Whether its metadata fits its message was judged where the
+/// nodes were taken, so the only refusal is `OutOfMemory`.
 fn node_parts(
     alloc: Global,
     array: &NodeRef<'_, '_>,
@@ -83,9 +83,9 @@ fn node_parts(
     })
 }
 
-/// Writes the blocks of an array's root, and of all nodes below it. They are passed by: the numbers
-/// of their encodings stand from the place of the nodes passed on, and their buffers are numbered
-/// from the number of those passed on.
+/// Writes the blocks of an array's root, and of all nodes below it, and counts them as passed. The numbers of their
+/// encodings stand in the list from the place of the nodes passed on, and their buffers are numbered from the number of
+/// buffers passed on.
 #[cycle(nodes)]
 pub(crate) fn write_node(
     alloc: Global,
@@ -123,7 +123,7 @@ pub(crate) fn write_node(
     Ok(())
 }
 
-/// Writes the blocks of the nodes below one, and of the vector that they hang on.
+/// Writes the blocks of the nodes below a node, and of the vector that links to them.
 #[cycle(nodes)]
 fn write_nodes(
     alloc: Global,

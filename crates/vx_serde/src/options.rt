@@ -1,9 +1,9 @@
 //! How a blob is written.
 
-/// Where a blob is to stand, whether its buffers are aligned there, and how deep it may nest.
+/// The position of a blob, whether its buffers are aligned there, and how deep it may nest.
 #[derive(Clone, Copy, Debug, PartialEq, Eq)]
 pub struct SerializeOptions {
-    /// The position at which the blob is to stand, in bytes.
+    /// The position at which the blob is to stand, in bytes. Alignments are counted with it.
     pub offset: usize,
     /// Whether pads bring each buffer, and the message, to a position of its alignment.
     pub include_padding: bool,

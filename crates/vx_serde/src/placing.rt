@@ -1,4 +1,4 @@
-//! Where the buffers of a written blob go.
+//! The places of the buffers of a written blob.
 
 ghost use Rattle.std.specs.Prelude.{◌≡◌, ◌+◌, ◌≤◌, ◌<◌, ◌^◌, ◌++◌, length, replicate, IfOk, IfSome, IfNone, OnOk};
 ghost use Rattle.vx_wire_tree.specs.Limits.{IsDescribable, AreDescribable};
@@ -19,7 +19,7 @@ pub(crate) struct LaidOut {
     pub(crate) end: usize,
 }
 
-/// How many bytes are skipped at a position in front of what is aligned to two to this exponent.
+/// The number of bytes to skip at a position before what is aligned to 2^`exponent`: 0 where padding is not asked for.
 pub(crate) fn pad_at(options: &SerializeOptions, exponent: u8, position: usize) -> usize
     requires { exponent ≤ 16 }
     ensures value { result ≡ pad options.now exponent position }
@@ -32,7 +32,7 @@ pub(crate) fn pad_at(options: &SerializeOptions, exponent: u8, position: usize) 
     (alignment - position % alignment) % alignment
 }
 
-/// The descriptor of a buffer that may start at this position.
+/// The descriptor of a buffer whose pad begins at this position.
 fn descriptor_at(options: &SerializeOptions, position: usize, buffer: &BufferHandle) -> Descriptor
     requires { IsDescribable buffer.now }
     ensures padding { result.padding ≡ pad options.now buffer.now.exponent position }
@@ -49,7 +49,7 @@ fn descriptor_at(options: &SerializeOptions, position: usize, buffer: &BufferHan
     }
 }
 
-/// A descriptor in eight bytes.
+/// Appends a descriptor, in eight bytes.
 fn push_descriptor(descriptor: Descriptor, out: &mut Vec<u8>) -> Result<(), AllocError>
     ensures { OnOk result (out.new.items ≡ out.old.items ++ descriptor_bytes descriptor) }
 {
@@ -60,8 +60,8 @@ fn push_descriptor(descriptor: Descriptor, out: &mut Vec<u8>) -> Result<(), Allo
     Ok(())
 }
 
-/// The descriptors of buffers, the first of which may start at the offset; None where a buffer would
-/// end past the positions of 64 bits.
+/// The descriptors of buffers, the first of which may start at the offset. `None` where a buffer would end past the
+/// positions of 64 bits.
 pub(crate) fn describe(
     alloc: Global,
     options: &SerializeOptions,
@@ -101,7 +101,7 @@ fn zeros(alloc: Global, count: usize) -> Result<Vec<u8>, AllocError>
     Ok(zeros)
 }
 
-/// A pad of this many zeros; nothing where it is empty.
+/// Appends a pad of this many zeros; nothing where it is empty.
 pub(crate) fn push_pad(
     alloc: Global,
     count: usize,
@@ -115,7 +115,7 @@ pub(crate) fn push_pad(
     out.push(ByteBuffer::from_vec(zeros(alloc, count)?)?)
 }
 
-/// The buffers, each after its pad and with no alignment.
+/// Appends the buffers, each after its pad and with no alignment: the pads already place them.
 pub(crate) fn push_data(
     alloc: Global,
     options: &SerializeOptions,
@@ -138,7 +138,7 @@ pub(crate) fn push_data(
     Ok(())
 }
 
-/// The greatest alignment of these buffers, at least 8.
+/// The greatest alignment of these buffers, at least 8 bytes, which is the message's.
 pub(crate) fn greatest_alignment(buffers: &BorrowedBuffers<'_>) -> Alignment
     ensures { result ≡ greatest_exponent 3 buffers.now }
 {

@@ -22,19 +22,20 @@ use vx_types::DType;
 pub struct Recoded {
     /// The array.
     pub array: Array,
-    /// The buffers of its blob: written one after the other they are the blob. The first is empty
-    /// and has the greatest alignment of the array's buffers, at least 8 bytes; the others have
-    /// none, and are each pad that is not empty, each data buffer, the message and its length.
+    /// The buffers of its blob: written one after the other, they are the blob. The first is empty and has the greatest
+    /// alignment of the array's buffers, at least 8 bytes, so that a writer knows how the blob is to be placed before
+    /// any byte. The others have no alignment. They are each pad that is not empty, each data buffer, the message and
+    /// its length.
     pub buffers: ByteBuffers,
 }
 
 /// Reads the array of this type and length that a blob spells, and writes it again.
 ///
-/// The blob's nodes are named by `read_ids`, those of the new one by `ctx`, which grows at its end
-/// by the array's own identifiers.
+/// The nodes of the blob that is read are numbered in `read_ids`, those of the new one in `ctx`, which grows at its end
+/// by the identifiers of the array.
 ///
 /// # Errors
-/// Each refusal has its cause in what is asked; where several have, any of them may be answered.
+/// Each refusal has its cause in what is asked. Where several have one, any of them may be answered.
 pub fn recode(
     alloc: Global,
     blob: ByteBuffer,
@@ -49,13 +50,13 @@ pub fn recode(
     ensures made { let s = session_meaning (λ b. means (b.vtable, b.value)) (λ b. accepted (b.vtable, b.value)) session.now in
         let asked = request blob dtype.now len read_ids.now ctx.old s options.now in
         IfOk result (λ r. IsRecoded asked (product r ctx.new)) }
-    // With shipped encodings only, the array is the one that the blob spells, the new blob spells it again, and
-    // what can be done is done, or memory is wanted.
+    // With shipped encodings alone, the array is the one that the blob spells, the new blob spells it again, and what
+    // can be done is done, unless allocation fails.
     ensures shipped { let s = session_meaning (λ b. means (b.vtable, b.value)) (λ b. accepted (b.vtable, b.value)) session.now in
         let asked = request blob dtype.now len read_ids.now ctx.old s options.now in
         IsShipped asked.session → IfOk result (λ r. IsFaithful asked (product r ctx.new))
         × (CanRecode asked → IfErr result (λ e. e ≡ WireError.OutOfMemory)) }
-    // Whatever the answer, the context keeps what it had, and what comes to it is the spelled array's.
+    // Whatever the result, the context keeps what it had, and only identifiers of the spelled array come to it.
     ensures left { let s = session_meaning (λ b. means (b.vtable, b.value)) (λ b. accepted (b.vtable, b.value)) session.now in
         let asked = request blob dtype.now len read_ids.now ctx.old s options.now in
         LeavesContext asked ctx.new }
@@ -68,7 +69,7 @@ pub fn recode(
 {
     let serialized = SerializedArray::try_from_buffer_to(alloc, blob, options.deep)?;
     let array = serialized.decode(alloc, dtype, len, read_ids, session)?;
-    // The list of what was read is not needed any more, and the new blob takes its room.
+    // What was read is not needed any more, so the new blob can take its memory.
     drop(serialized);
     let buffers = array.serialize(alloc, ctx, session, options)?;
     Ok(Recoded { array, buffers })

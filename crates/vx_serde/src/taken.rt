@@ -29,7 +29,7 @@ use vx_scalars::StatsSet;
 use vx_serialized::WireError;
 use vx_types::{Blob, Id};
 
-/// An array that is written: one that is borrowed, or, below what a plugin gave, one that is held.
+/// An array that is written: one that is borrowed, or, below what a plugin gave, one that is owned.
 #[derive(Drop)]
 pub(crate) enum Source<'a> {
     Borrowed(&'a Array),
@@ -48,7 +48,7 @@ impl<'a> Source<'a> {
     }
 }
 
-// A copy of an array, which is held.
+// A copy of an array, which is owned.
 fn copy_of<'a>(alloc: Global, array: &Array) -> Result<Source<'a>, WireError>
     ensures ok { IfOk result (λ s. source_tree s ≡ array.now) }
     ensures err { IsOkUnless result WireError.OutOfMemory }
@@ -62,7 +62,7 @@ fn copy_of<'a>(alloc: Global, array: &Array) -> Result<Source<'a>, WireError>
     }
 }
 
-// A child of an array: borrowed, where the array is borrowed itself, or a copy.
+// A child of an array: borrowed, where the array is borrowed, and else a copy.
 fn child_of<'a>(alloc: Global, source: &Source<'a>, i: usize) -> Result<Source<'a>, WireError>
     requires { i < count (below (source_tree source.now)) }
     ensures ok { IfOk result (λ s. slice_get (roses_list (below (source_tree source.now))) i ≡ Some (source_tree s)) }
@@ -77,7 +77,7 @@ fn child_of<'a>(alloc: Global, source: &Source<'a>, i: usize) -> Result<Source<'
     }
 }
 
-// A child of an array.
+// A child of an array, borrowed.
 fn borrowed_child(array: &Array, i: usize) -> &Array
     requires { i < count (below array.now) }
     ensures { slice_get (roses_list (below array.now)) i ≡ Some result.now }
@@ -95,8 +95,8 @@ pub(crate) struct GivenParts {
 }
 
 /// A node as it is written, with those below it: as an array's root is, or with the parts that a plugin gives for it.
-/// Where an array is written as it stands, with all below it, no node is kept below. Contracts see the tree that is
-/// written.
+/// Where an array is written unchanged, with all below it, no node is kept below it: one reference stands for the
+/// whole. Contracts see the tree that is written.
 #[derive(Drop)]
 pub(crate) struct TakenNode<'a> {
     source: Source<'a>,
@@ -128,7 +128,7 @@ impl<'a> Model for TakenNode<'a> {
 }
 
 impl<'a> TakenNode<'a> {
-    /// The identifier under which the node is written, where primitives are written under two or not.
+    /// The identifier under which the node is written; `two` says whether primitives have two.
     pub(crate) fn written_id(&self, alloc: Global, two: bool) -> Result<Id, WireError>
         ensures ok { IfOk result (λ id. id ≡ array_id two self.now) }
         ensures err { IsOkUnless result WireError.OutOfMemory }
@@ -145,7 +145,7 @@ impl<'a> TakenNode<'a> {
         }
     }
 
-    /// The bytes of its metadata.
+    /// The bytes of the node's metadata.
     pub(crate) fn metadata(&self, alloc: Global) -> Result<Blob, WireError>
         ensures ok { IfOk result (λ bytes. bytes ≡ message_bytes (told (metadata_in (label self.now) (below self.now)))) }
         ensures err { IsOkUnless result WireError.OutOfMemory }
@@ -159,7 +159,7 @@ impl<'a> TakenNode<'a> {
         }
     }
 
-    /// How many buffers it has itself.
+    /// The number of the node's own buffers.
     pub(crate) fn nbuffers(&self) -> usize
         ensures { result ≡ length (buffers_of (label self.now).body) }
     {
@@ -169,7 +169,7 @@ impl<'a> TakenNode<'a> {
         }
     }
 
-    /// Its buffer at this place.
+    /// The node's own buffer at this index.
     pub(crate) fn buffer(&self, i: usize) -> &BufferHandle
         requires { i < length (buffers_of (label self.now).body) }
         ensures { slice_get (buffers_of (label self.now).body) i ≡ Some result.now }
@@ -183,7 +183,7 @@ impl<'a> TakenNode<'a> {
         }
     }
 
-    /// Its statistics.
+    /// The node's statistics.
     pub(crate) fn statistics(&self) -> &StatsSet
         ensures stats { result.now ≡ (label self.now).stats }
         ensures fits { FitStats (label self.now).dtype (label self.now).stats }
@@ -191,7 +191,7 @@ impl<'a> TakenNode<'a> {
         self.source.array().statistics()
     }
 
-    /// The nodes below it.
+    /// The nodes right below it.
     pub(crate) fn children<'n>(&'n self) -> NodeRefs<'n, 'a>
         ensures children { roses_of result ≡ below self.now }
     {
@@ -202,7 +202,7 @@ impl<'a> TakenNode<'a> {
     }
 }
 
-/// The bytes of the metadata of an array's root, of which it was judged that they fit their message.
+/// The bytes of the metadata of an array's root, which is known to fit its message.
 pub(crate) fn own_metadata(alloc: Global, array: &Array) -> Result<Blob, WireError>
     ensures ok { IfOk result (λ bytes. bytes ≡ message_bytes (told (metadata_in (label array.now) (below array.now)))) }
     ensures err { IsOkUnless result WireError.OutOfMemory }
@@ -213,7 +213,7 @@ pub(crate) fn own_metadata(alloc: Global, array: &Array) -> Result<Blob, WireErr
     }
 }
 
-/// A root that is written: as it is, or as the parts that a plugin gives for it.
+/// A root that is written: unchanged, or as the parts that a plugin gives for it.
 #[derive(Drop)]
 struct TakenRoot<'a> {
     source: Source<'a>,
@@ -221,7 +221,7 @@ struct TakenRoot<'a> {
 }
 
 impl<'a> TakenRoot<'a> {
-    /// How many arrays it is written over.
+    /// The number of arrays that it is written over.
     fn nchildren(&self) -> usize
         ensures { result ≡ count (root_arrays self.now) }
     {
@@ -247,14 +247,14 @@ impl<'a> TakenRoot<'a> {
         }
     }
 
-    /// Whether it is written as it is, over nodes that are its array's own as they stand (`below`) or not.
+    /// Whether it is written unchanged, over its array's own children unchanged (`below`).
     fn is_own(&self, below: bool) -> bool
         ensures { IsTrue result → IsTrue below × (self.now.given ≡ None) }
     {
         below && self.given.is_none()
     }
 
-    /// The node, over those below it. Where it is its array's own, and so are they, they need not be kept.
+    /// The node, over those below it. These are not kept where all of it is the array unchanged.
     fn over(
         self,
         alloc: Global,
@@ -323,8 +323,8 @@ fn given_parts(
     }
 }
 
-// The parts that a plugin gives for an array's root, where there is room for so many levels; none, where the root is
-// written as it is. `WireLimit` where there is no room or its metadata does not fit its message, else as `written_root`.
+// The parts that a plugin gives for an array's root, where there is room for a level; `None`, where the root is written
+// unchanged. `WireLimit` where there is no room or its metadata does not fit its message, else as `written_root`.
 fn parts_of(
     alloc: Global,
     array: &Array,
@@ -353,9 +353,9 @@ fn parts_of(
     }
 }
 
-/// A root that is written, the nodes below it that are taken so far, and whether each of these is the root's array's own
-/// child as it stands. It is handed on or dropped by hand wherever it is held: where it falls by itself, the proof spells
-/// out each of its parts.
+/// A root that is written, the nodes below it that are taken so far, and whether each of these is the root's array's
+/// own child unchanged. It is passed on or dropped by hand wherever it is held: where it is dropped by itself, the
+/// proof spells out each of its parts.
 #[derive(Drop)]
 struct OpenRoot<'a> {
     root: TakenRoot<'a>,
@@ -363,7 +363,7 @@ struct OpenRoot<'a> {
     own: bool,
 }
 
-// Room for so many nodes, where there is memory for it now.
+// Room for `count` nodes, where that memory can be allocated now. Pushing allocates what is missing.
 fn room_for<'a>(alloc: Global, count: usize) -> Vec<TakenNode<'a>>
     ensures { result.items ≡ [] }
 {
@@ -374,7 +374,7 @@ fn room_for<'a>(alloc: Global, count: usize) -> Vec<TakenNode<'a>>
 }
 
 impl<'a> OpenRoot<'a> {
-    /// The root of an array, where there is room for so many levels. The refusals are those of `take`.
+    /// The root of an array, where there is room for `room` levels. The refusals are those of `take`.
     fn new(
         alloc: Global,
         source: Source<'a>,
@@ -407,14 +407,14 @@ impl<'a> OpenRoot<'a> {
         }
     }
 
-    /// How many arrays it is written over.
+    /// The number of arrays that it is written over.
     fn nchildren(&self) -> usize
         ensures { result ≡ count (root_arrays self.now.root) }
     {
         self.root.nchildren()
     }
 
-    /// The root of one of the arrays below it, where there is room for so many levels.
+    /// The root of one of the arrays below it, where there is room for `room` levels.
     fn child(
         &self,
         alloc: Global,
@@ -435,7 +435,7 @@ impl<'a> OpenRoot<'a> {
         OpenRoot::new(alloc, below, arrays, unknown, room)
     }
 
-    /// The node of the root, over the nodes below it, once these are taken; and whether it is its array's own as it stands.
+    /// The node of the root, over the nodes below it, once these are taken; and whether it is its array unchanged.
     fn closed(self, alloc: Global) -> Result<(TakenNode<'a>, bool), WireError>
         requires places { places (roses_of self.children.items) ≡ places (root_arrays self.root) }
         requires own { IsTrue self.own → self.children.items ≡ roses_list (root_arrays self.root) }
@@ -453,7 +453,7 @@ impl<'a> OpenRoot<'a> {
         Ok((node, own))
     }
 
-    /// One more node below it: a root, once the nodes below that one are taken.
+    /// Appends a node below it: a root, once the nodes below that one are taken.
     fn close(
         &mut self,
         alloc: Global,
@@ -480,7 +480,7 @@ impl<'a> OpenRoot<'a> {
         }
     }
 
-    // One more node below it, which is the array's own child as it stands, or not.
+    // Appends a node below it; `own` says whether it is the array's own child unchanged.
     fn push(&mut self, node: TakenNode<'a>, own: bool) -> Result<(), WireError>
         ensures root { self.new.root ≡ self.old.root }
         ensures children { OnOk result (self.new.children.items ≡ self.old.children.items ++ node.entry ∷ []) }
@@ -497,7 +497,7 @@ impl<'a> OpenRoot<'a> {
     }
 }
 
-// The nodes below a root, each as it is taken where there is room for so many levels below the root.
+// Takes the nodes below a root, where there is room for `room` levels below the root.
 fn fill<'a>(
     alloc: Global,
     above: &mut OpenRoot<'a>,
@@ -520,9 +520,10 @@ fn fill<'a>(
     Ok(())
 }
 
-/// How the nodes of an array are written: `WireLimit` where there are more than `room` levels, whatever plugins give, or a
-/// node's metadata does not fit its message; `NotRegistered` where nothing writes a node, `NotSerializable`,
-/// `UndeclaredId` and `PluginRefused` where a plugin does not.
+/// How the nodes of an array are written: `WireLimit` where there are more than `room` levels, whatever plugins give,
+/// or a node's metadata does not fit its message; `NotRegistered` where nothing writes a node; `NotSerializable`,
+/// `UndeclaredId` and `PluginRefused` where a plugin does not. Levels are judged on the way down, so no deeper tree is
+/// entered.
 pub(crate) fn take<'a>(
     alloc: Global,
     source: Source<'a>,

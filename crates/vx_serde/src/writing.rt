@@ -1,4 +1,4 @@
-//! Arrays as blobs.
+//! Writing arrays as blobs.
 
 ghost use Rattle.std.specs.Prelude.{◌≡◌, ◌+◌, ◌≤◌, ◌<◌, ◌-◌, ◌^◌, ◌++◌, [], ◌∷◌, Some, IsTrue, IsFalse, length, IfOk, IfErr, OnOk};
 ghost use Rattle.std.specs.Int.{w32, to_le_bytes};
@@ -46,10 +46,11 @@ use vx_flat::{Builder, FlatBuffer, FlatError, LinkKind, verify_uncounted_to};
 use vx_registry::{ArrayContext, ArraySession};
 use vx_serialized::{ArrayKind, WireError};
 
-// A little more than the bytes of a message that come with a node of one buffer.
+// The room to reserve for a node of one buffer in a message: a little more than its bytes.
 const NODE_ROOM: usize = 80;
 
-// What a blob has beside its data buffers and the pads in front of these: an empty buffer, a pad, its message and the length.
+// The buffers of a blob beside its data buffers and their pads: the empty one, the message's pad, the message and its
+// length.
 const PARTS_BESIDE: usize = 4;
 
 /// The buffers of a blob: the first is empty and has the greatest alignment.
@@ -76,7 +77,7 @@ fn blob_buffers(
     Ok(out)
 }
 
-/// A message, where a reader's limits admit it, deep or not.
+/// A message, where the limits on reading admit it, deep or not. It is verified once more, which takes no memory.
 fn limited_message(message: FlatBuffer, deep: bool) -> Result<Vec<u8>, WireError>
     requires { (v : Fields) × Shows array_schema message v }
     ensures same { IfOk result (λ m. m.items ≡ message) }
@@ -122,8 +123,8 @@ fn write_blocks(
     Ok(())
 }
 
-/// The message of an array, whose encodings have these numbers in preorder, and of the bytes of its descriptors; deep or
-/// not.
+/// The message of an array, whose encodings have these numbers in preorder, and of the bytes of its descriptors; deep
+/// or not.
 fn write_message(
     alloc: Global,
     array: &NodeRef<'_, '_>,
@@ -154,8 +155,8 @@ fn write_message(
     limited_message(message, deep)
 }
 
-/// What an array's nodes bring along in preorder, and where its buffers go. Its identifiers are taken into the context
-/// in preorder; primitives have two (`two`) or one.
+/// The buffers of an array's nodes and the numbers of their encodings in preorder, and the places of the buffers. Its
+/// identifiers are taken into the context in preorder; `two` says whether primitives have two.
 fn place<'a>(
     alloc: Global,
     array: &NodeRef<'a, '_>,
@@ -182,8 +183,8 @@ fn place<'a>(
     Ok((found, placed))
 }
 
-/// Whether a blob ends within the positions of 64 bits: the position where its data ends, the
-/// pad in front of its message, and the message's length are given.
+/// Whether a blob ends within the positions of 64 bits, by the position where its data ends, the pad before its
+/// message, and the message's length.
 fn has_end(end: usize, padding: usize, message: usize) -> bool
     requires pad { padding < 2 ^ 16 }
     requires short { message < 2 ^ 31 }
@@ -193,7 +194,7 @@ fn has_end(end: usize, padding: usize, message: usize) -> bool
     end.checked_add(padding + message + 4).is_some()
 }
 
-/// Writes an array whose nodes were taken: the buffers, one after the other, are its blob.
+/// Writes an array whose nodes were taken. The buffers, one after the other, are its blob.
 fn write_taken(
     alloc: Global,
     array: &NodeRef<'_, '_>,
@@ -215,7 +216,7 @@ fn write_taken(
         &placed.descriptors,
         options.deep,
     )?;
-    // The message has the descriptors, and the list of buffers takes their room.
+    // The message holds the descriptors now, so the list of buffers can take their memory.
     drop(placed.descriptors);
     let padding = pad_at(options, 3, placed.end);
     if !has_end(placed.end, padding, message.len()) {
@@ -224,7 +225,7 @@ fn write_taken(
     Ok(blob_buffers(alloc, options, &found.buffers, padding, message)?)
 }
 
-/// Writes an array: the buffers, one after the other, are its blob.
+/// Writes an array. The buffers, one after the other, are its blob.
 pub(crate) fn write_array(
     alloc: Global,
     array: &Array,

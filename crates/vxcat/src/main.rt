@@ -7,10 +7,10 @@ use std::{env, io};
 use vx_types::{Name, TypeError};
 use vxcat_core::{DirStore, Output, run};
 
-// The status for allocation failure while the words are read.
+// The status for an allocation that failed while the words are read.
 const OUT_OF_MEMORY: u8 = 1;
 
-// The status for words that are no command, as those that are no text.
+// The status for words that are no command, or that are not UTF-8.
 const NO_COMMAND: u8 = 2;
 
 // The status for a text that could not be printed.
@@ -46,7 +46,7 @@ vxcat --version
 
 const VERSION: &str = "vxcat 0.1.0\n";
 
-// What is printed for a word that asks for no command.
+// The text for a word that asks for no command: `--help` or `--version`.
 fn answer(word: &str) -> Option<&'static str> {
     match word {
         "--help" => Some(HELP),

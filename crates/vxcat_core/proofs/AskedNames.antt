@@ -1,4 +1,4 @@
--- Names that were asked for.
+-- The names that were asked for.
 use Rattle.std.proofs.Common.{◌≡◌, ◌⊎◌, inl, inr, ℕ, suc, List, [], ◌∷◌, ◌++◌, Contains, sym, ap, ◌∙◌, append_assoc, arith}
 use Rattle.std.proofs.lemmas.List.{append-nil}
 use Rattle.std.specs.List.{AllByRecursion}
@@ -27,7 +27,7 @@ wider : (P Q : List ℕ → Type 0) (names : List (List ℕ)) → ((n : List ℕ
 wider P Q [] f all = tt
 wider P Q (n ∷ names) f all = (f n all.0, wider P Q names f all.1)
 
--- Names that were asked for at last, each of them after three others.
+-- Names that were asked for after three others.
 pub asked_last : (a b c : List ℕ) (names before mid after : List (List ℕ)) → AskedOnly (a ∷ b ∷ c ∷ names) before mid → AskedOnly names mid after → AskedOnly (a ∷ b ∷ c ∷ names) before after
 asked_last a b c names before mid after so_far last = (
   so_far.0 ++ last.0,

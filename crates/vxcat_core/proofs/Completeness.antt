@@ -1,4 +1,4 @@
--- Where inputs can be recoded and no fault comes, a run ends well or for allocation failure.
+-- Where inputs can be recoded and no fault occurs, the status of a run is 0, or 1 for allocation failure.
 use Rattle.std.proofs.Common.{◌≡◌, ◌⊎◌, inl, inr, ℕ, Option, Some, None, List, [], get_or, drop, length, refl, sym, ap, subst, ◌∙◌, arith}
 use Rattle.std.specs.Bool.{IsTrue}
 use Rattle.std.specs.List.{flat_map}
@@ -35,7 +35,7 @@ line_same words a b first second =
     let out_ids : a.out_ids ≡ b.out_ids = word _ _ 6 same in
     λ k. record { type_file = types k; blob_file = blobs k; len = lens k; id_file = ids k; out = outs k; out_ids = out_ids k; settings = settings k }
 
--- What a store tells of a name is one list of bytes.
+-- A store tells at most one list of bytes at a name.
 stands_same : (store : StoreState) (name a b : List ℕ) → IsTrue store.tells → Stands store name a → Stands store name b → a ≡ b
 stands_same store name a b told first second = let x = first told in let y = second told in cc
 
@@ -47,7 +47,7 @@ named_same store (Some name) (Some a) (Some b) told first second = ap (λ (l : L
 named_same store (Some name) None b told first second = absurd first
 named_same store (Some name) (Some a) None told first second = absurd second
 
--- A store tells one set of inputs of a line.
+-- A store tells at most one set of inputs of a line.
 inputs_same : (line : Recode) (store : StoreState) (a b : Loaded) → IsTrue store.tells → AreInputs line store a → AreInputs line store b → a ≡ b
 inputs_same line store a b told first second =
     let types = stands_same store line.type_file a.type_bytes b.type_bytes told first.type_stands second.type_stands in
@@ -100,7 +100,7 @@ not_recode words line made first second = omega (arith, ap (λ (l : List (List �
 not_expr : (words : List (List ℕ)) (file : List ℕ) (made : Make) → InvokesExpr words file → InvokesMake words made → ⊥
 not_expr words file made first second = omega (arith, ap (λ (l : List (List ℕ)). length l) (sym first ∙ second.words_are))
 
--- A command that can end well does so, or for allocation failure.
+-- A command that can end well does so, or ends with allocation failure.
 pub complete : (words : List (List ℕ)) (status : Status) (command : Command) (run : Run) → CanRun words run.before → HasNoFault run → Invokes words command → Ends status command run
     → (status_number status ≡ 0) ⊎ (status_number status ≡ 1)
 complete words status command run can none invoked ends = by_commands can.command can.invoked can.can_end command invoked ends where

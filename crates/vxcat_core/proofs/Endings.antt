@@ -27,7 +27,7 @@ pub keeps_same : (known : Option (List ℕ)) → Keeps known known
 keeps_same None = tt
 keeps_same (Some bytes) = refl
 
--- A step that changes no file goes before one that keeps other names.
+-- A step that changes no file, before one that keeps other names.
 pub others_through : (line : Recode) (before mid after : StoreState) → mid.file ≡ before.file → mid.tells ≡ before.tells → KeepsOthers line mid after → KeepsOthers line before after
 others_through line before mid after file tells others = record {
   told = others.told ∙ tells;

@@ -38,7 +38,7 @@ read_as registry bytes e none read = subst (λ (r : Registry ScalarFn). ReadsExp
 pub as_read : (registry : Registry ScalarFn) (bytes : List ℕ) (e : Expr) → ((id : List ℕ) → registry id ≡ None) → IsReadAsExpression bytes e → ReadsExprBytes registry true bytes e
 as_read registry bytes e none read = subst (λ (r : Registry ScalarFn). ReadsExprBytes r true bytes e) (sym (same_registry registry none)) read
 
--- Bytes are refused where they are read as no expression, or for allocation failure.
+-- Bytes are refused where they are read as no expression, or where allocation failed.
 pub refused : (e : FnWireError) (bytes : List ℕ) → ((x : Expr) → IsReadAsExpression bytes x → e ≡ error.OutOfMemory) → RefusesExpr (expr_status e) bytes
 refused error.OutOfMemory bytes complete = tt
 refused error.BadMessage bytes complete = λ x read. (let never = complete x read in cc)
@@ -50,7 +50,7 @@ refused error.IdMismatch bytes complete = λ x read. (let never = complete x rea
 refused error.NotSerializable bytes complete = λ x read. (let never = complete x read in cc)
 refused error.PluginRefused bytes complete = λ x read. (let never = complete x read in cc)
 
--- What is read can be written: nothing but memory is wanting.
+-- What is read can be written: the only refusal is `OutOfMemory`.
 pub memory_alone : (e : FnWireError) (bytes : List ℕ) (x : Expr) → IsReadAsExpression bytes x → levels x ≤ 100 → RefusesWritingExprBytes e x → e ≡ error.OutOfMemory
 memory_alone error.OutOfMemory bytes x read shallow cause = refl
 memory_alone error.TooDeep bytes x read shallow cause = absurd (omega (arith, shallow, cause))

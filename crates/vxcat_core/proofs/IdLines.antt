@@ -19,7 +19,7 @@ cut (c ∷ l) (d ∷ m) x y nl nm is =
     let heads : c ≡ d = ap (λ (l : List ℕ). get_or l 0 0) is in
     ((λ i. heads i ∷ tails.0 i), tails.1)
 
--- one line, and what stands after it
+-- One line, and what stands after it.
 behind : (id : List ℕ) (ids : List (List ℕ)) (rest : List ℕ) → id_text (id ∷ ids) ++ rest ≡ id ++ 10 ∷ (id_text ids ++ rest)
 behind id ids rest = append_assoc (id ++ 10 ∷ []) (id_text ids) rest ∙ append_assoc id (10 ∷ []) (id_text ids ++ rest)
 
@@ -30,7 +30,7 @@ not_none : (id x : List ℕ) → id ++ 10 ∷ x ≡ [] → ⊥
 not_none [] x is = cc
 not_none (c ∷ id) x is = cc
 
--- the lines at the front of a text are the first of its lines
+-- The lines at the front of a text are the first of its lines.
 pub record Peeled (ids : List (List ℕ)) (rest : List ℕ) (all : List (List ℕ)) : Type 0 where
   pub tail : List (List ℕ)
   pub split : all ≡ ids ++ tail
@@ -54,7 +54,7 @@ peel (id ∷ ids) rest (a ∷ all) good h =
     let more = peel ids rest all good.1 parts.1 in
     record { tail = more.tail; split = (λ i. sym parts.0 i ∷ more.split i); lines = more.lines }
 
--- no text begins with an empty line
+-- No text begins with an empty line.
 pub no_empty_line : (after : List ℕ) (all : List (List ℕ)) → HasLines (10 ∷ after) all → ⊥
 no_empty_line after [] h = elim h.text [ inl whole ↦ cc | inr cut_off ↦ cc ]
 no_empty_line after ([] ∷ all) h = omega (arith, h.lines.0.0)
@@ -63,12 +63,12 @@ no_empty_line after ((c ∷ id) ∷ all) h = elim h.text [
   | inr cut_off ↦ h.lines.0.1.0 (sym (ap (λ (l : List ℕ). get_or l 0 0) cut_off))
 ]
 
--- bytes that are left are at least one line
+-- Bytes that are left are at least one line.
 pub one_line_left : (b : ℕ) (rest : List ℕ) (all : List (List ℕ)) → HasLines (b ∷ rest) all → 1 ≤ length all
 one_line_left b rest [] h = absurd (elim h.text [ inl whole ↦ cc | inr cut_off ↦ cc ])
 one_line_left b rest (a ∷ all) h = omega arith
 
--- after as many lines as are allowed no byte may stand
+-- After as many lines as are allowed no byte may stand.
 pub too_many : (ids : List (List ℕ)) (b : ℕ) (rest : List ℕ) (all : List (List ℕ)) → AllByRecursion IsIdLine ids → 65536 ≤ length ids → HasLines (id_text ids ++ b ∷ rest) all → length all ≤ 65536 → ⊥
 too_many ids b rest all good many h few =
     let p = peel ids (b ∷ rest) all good h in
@@ -94,7 +94,7 @@ feed_free xs n first within = recursion_from_All (λ (b : ℕ). b ≢ 10) (take 
     let yes : get_or xs k d ≡ 10 = sym same ∙ is in
     grind (arith, nat_tests))
 
--- the first line of a text, and what stands after its line feed
+-- The first line of a text, and what stands after its line feed.
 pub first_line_is : (xs : List ℕ) → position_or_len is_feed xs < length xs → (xs ≡ before_first is_feed xs ++ 10 ∷ after_first is_feed xs) × NoFeed (before_first is_feed xs)
 first_line_is xs within =
     let at = position_or_len is_feed xs in
@@ -105,7 +105,7 @@ first_line_is xs within =
 pub last_line_is : (xs : List ℕ) → position_or_len is_feed xs ≡ length xs → NoFeed xs
 last_line_is xs all = subst NoFeed (take_all (length xs) xs (omega arith)) (feed_free xs (length xs) (omega (arith, all)) (omega arith))
 
--- a line that is refused is no line of the text
+-- A line that is refused is no line of the text.
 pub refused : (text : List ℕ) (ids : List (List ℕ)) (line after : List ℕ) (all : List (List ℕ)) → AllByRecursion IsIdLine ids → text ≡ id_text ids ++ (line ++ 10 ∷ after) → (length line ≡ 0) ⊎ (65536 ≤ length ids) → HasLines text all → length all ≤ 65536 → ⊥
 refused text ids [] after all good split (inl none) h few =
     let p = peel ids (10 ∷ after) all good (subst (λ (l : List ℕ). HasLines l all) split h) in
@@ -114,13 +114,13 @@ refused text ids [] after all good split (inr many) h few = too_many ids 10 afte
 refused text ids (b ∷ line) after all good split (inl none) h few = absurd (omega (arith, none))
 refused text ids (b ∷ line) after all good split (inr many) h few = too_many ids b (line ++ 10 ∷ after) all good many (subst (λ (l : List ℕ). HasLines l all) split h) few
 
--- nor is one at the end
+-- Nor is one at the end.
 pub refused_last : (text : List ℕ) (ids : List (List ℕ)) (line : List ℕ) (all : List (List ℕ)) → AllByRecursion IsIdLine ids → text ≡ id_text ids ++ line → 0 < length line → (length line ≡ 0) ⊎ (65536 ≤ length ids) → HasLines text all → length all ≤ 65536 → ⊥
 refused_last text ids line all good split some (inl none) h few = omega (arith, none, some)
 refused_last text ids [] all good split some (inr many) h few = omega (arith, some)
 refused_last text ids (b ∷ line) all good split some (inr many) h few = too_many ids b line all good many (subst (λ (l : List ℕ). HasLines l all) split h) few
 
--- the last line has no line feed
+-- The last line has no line feed.
 pub ends_without : (text : List ℕ) (ids : List (List ℕ)) (line : List ℕ) → AllByRecursion IsIdLine ids → text ≡ id_text ids ++ line → IsIdLine line → HasLines text (ids ++ line ∷ [])
 ends_without text ids line good split one = record {
   lines = push_line ids line good one;
@@ -140,7 +140,7 @@ whole_unique ids all good h =
     let p = peel ids [] all good (subst (λ (l : List ℕ). HasLines l all) (sym (append-nil (id_text ids))) h) in
     p.split ∙ ap (λ (l : List (List ℕ)). ids ++ l) (none_left p.tail p.lines) ∙ append-nil ids
 
--- the lines of a text are determined by it
+-- The lines of a text are determined by it.
 pub lines_unique : (bytes : List ℕ) (ids all : List (List ℕ)) → HasLines bytes ids → HasLines bytes all → all ≡ ids
 lines_unique bytes ids all h k = elim h.text [
   | inl whole ↦ whole_unique ids all h.lines (subst (λ (l : List ℕ). HasLines l all) whole k)

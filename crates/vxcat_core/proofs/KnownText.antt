@@ -1,4 +1,4 @@
--- Known bytes that grow twice.
+-- Bytes that are known and are appended to twice.
 use Rattle.std.proofs.Common.{◌≡◌, ℕ, Option, None, Some, List, [], ◌++◌, take, drop, refl, sym, ◌∙◌, ap, append_assoc, take-append-drop}
 use Rattle.std.proofs.lemmas.List.{append-nil}
 use Rattle.std.specs.Io.KnownBytes.{Appends}
@@ -14,7 +14,7 @@ appends_more (Some a) None new xs ys first second = absurd first
 appends_more (Some a) (Some b) None xs ys first second = absurd second
 appends_more (Some a) (Some b) (Some c) xs ys first second = second ∙ ap (λ (l : List ℕ). l ++ ys) first ∙ append_assoc a xs ys
 
--- the front so far, and what is left
+-- The prefix so far, and what is left.
 abbrev pub AppendsUpTo : Option (List ℕ) → Option (List ℕ) → List ℕ → List ℕ → Type 0
 AppendsUpTo old new text rest = (front : List ℕ) × (front ++ rest ≡ text) × Appends old new front
 

@@ -20,7 +20,7 @@ further_from [] i b at = absurd (cc)
 further_from (x ∷ xs) zero b at = let same : x ≡ b = cc in ap (λ (z : Buffer). further_length z ++ flat_map further_length xs) same
 further_from (x ∷ xs) (suc i) b at = further_from xs i b at
 
--- The first buffer has no comma before it, and each further one has.
+-- The first buffer has no comma before it, and each later one has.
 first_from : (buffers : List Buffer) (b : Buffer) → slice_get buffers 0 ≡ Some b → lengths_from 0 buffers ≡ length_text b ++ lengths_from 1 buffers
 first_from [] b at = absurd (cc)
 first_from (x ∷ xs) b at = let same : x ≡ b = cc in ap (λ (z : Buffer). length_text z ++ flat_map further_length xs) same
@@ -53,7 +53,7 @@ pub child_lines : (indent deeper : List ℕ) (trees : List Tree) (i : ℕ) (d ch
     → node_lines_below (indent ++ codes "  ") (roses_of (drop i trees)) ≡ node_lines deeper child ++ node_lines_below (indent ++ codes "  ") (roses_of (drop (i + 1) trees))
 child_lines indent deeper trees i d child made within is = rw (made, is) (node_lines_below-drop (indent ++ codes "  ") trees i d within)
 
--- What was written and what is left of a text make the whole, also once the next line was written.
+-- What was written and what is left of a text are the whole; the same holds once the next line is written.
 pub line_next : (old new left line rest all : List ℕ) → new ≡ old ++ line → left ≡ line ++ rest → old ++ left ≡ all → new ++ rest ≡ all
 line_next old new left line rest all added is so = ap (λ z. z ++ rest) added ∙ append_assoc old line rest ∙ ap (λ z. old ++ z) (sym is) ∙ so
 

@@ -39,7 +39,7 @@ make_not_two SaveFault line run ends is = absurd (omega (arith, is))
 make_not_two WriteFault line run ends is = absurd (omega (arith, is))
 make_not_two status line run ends is = absurd ends
 
--- Where no fault comes, it ends well or for allocation failure.
+-- Where no fault occurs, it ends well or with allocation failure.
 pub make_complete : (status : Status) (line : Make) (run : Run) → HasNoFault run → EndsMake status line run → (status_number status ≡ 0) ⊎ (status_number status ≡ 1)
 make_complete Done line run none ends = inl refl
 make_complete OutOfMemory line run none ends = inr refl

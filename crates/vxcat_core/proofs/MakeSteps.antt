@@ -34,7 +34,7 @@ use Rattle.vxcat_core.specs.RecodeViews.{AreMade}
 use Rattle.vxcat_core.specs.Statuses.{blob_status, type_status}
 use Rattle.vxcat_core.proofs.Tables.{table_again, table_grows, table_ids, table_memory, table_own, table_spelled, type_known, type_memory}
 
--- What holds of the tables that seeds tell holds of a table.
+-- What holds of each table of a seed holds of a table.
 of_table : (P : Tree → Type 0) (array : Tree) (is : IsTable array) → P (made is.seed is.rows) → P array
 of_table P array is p = subst P (sym is.array_is) p
 
@@ -54,7 +54,7 @@ type_refused array is t same e u status s = s ∙ ap type_status (type_memory e 
 -- ---- the blob
 
 module _ (array : Tree) (is : IsTable array) (s : SessionMeaning) (c : Context) (o : SerializeOptions) (session : s ≡ make_session) (context : c ≡ no_ids) (options : o ≡ make_options) where
-  -- A table is refused for allocation failure alone.
+  -- The only refusal of a table is allocation failure.
   pub once_refused : (e : WireError) → RefusesArray s array c o e → (status : Status) → status ≡ blob_status e → status ≡ OutOfMemory
   once_refused e r status same =
       let a = subst (λ (z : SessionMeaning). RefusesArray z array c o e) session r in

@@ -1,4 +1,4 @@
--- Words give options in one way alone.
+-- Words give options in at most one way.
 use Rattle.std.proofs.Common.{◌≡◌, ℕ, List, [], ◌∷◌, ◌++◌, Option, Some, None, ◌<◌, ◌^◌, codes, decimal, get_or, drop, refl, sym, ap, ◌∙◌, arith}
 use Rattle.std.specs.List.{AllByRecursion, flat_map}
 use Rattle.std.proofs.lemmas.Fmt.{decimal_injective}
@@ -29,7 +29,7 @@ front deep deep rest other fits also same = (refl, behind_one _ _ same)
 front revised revised rest other fits also same = (refl, behind_one _ _ same)
 front c d rest other fits also same = absurd (omega (arith, letter_at _ _ same))
 
--- What cannot be is not made good by more options.
+-- Options that have two of one kind stay invalid with more options.
 pub with_settings-None : (settings : List Setting) → with_settings None settings ≡ None
 with_settings-None [] = refl
 with_settings-None (setting ∷ settings) = with_settings-None settings
@@ -38,7 +38,7 @@ no_words : (setting : Setting) (rest : List (List ℕ)) → [] ≡ setting_words
 no_words unknown rest same = cc
 no_words setting rest same = cc
 
--- One option more at the front.
+-- One more option at the front.
 pub one_more : (before next after : Given) (setting : Setting) (words rest : List (List ℕ)) → words ≡ setting_words setting ++ rest → IsInRange setting → with_setting before setting ≡ Some next
     → Gives next rest after → Gives before words after
 one_more before next after setting words rest words_are in_range given gives = record {
@@ -50,14 +50,14 @@ one_more before next after setting words rest words_are in_range given gives = r
   same_list : setting_words setting ++ flat_map setting_words gives.settings ≡ flat_map setting_words (setting ∷ gives.settings)
   same_list = refl
 
--- Words that begin with no option, and are some, give none.
+-- Words that are not empty and begin with no option give none.
 pub not_begun : (before after : Given) (words : List (List ℕ)) → (words ≡ [] → ⊥) → ((setting : Setting) (rest : List (List ℕ)) → IsInRange setting → words ≡ setting_words setting ++ rest → ⊥) → Gives before words after → ⊥
 not_begun before after words some none gives = by_settings gives.settings gives.words_are gives.in_range where
   by_settings : (settings : List Setting) → words ≡ flat_map setting_words settings → AllByRecursion IsInRange settings → ⊥
   by_settings [] is ranges = some is
   by_settings (setting ∷ settings) is ranges = none setting (flat_map setting_words settings) ranges.0 is
 
--- Words that begin with an option give what the rest gives beside it.
+-- Words that begin with an option give what the rest gives added to it.
 pub rest_given : (before after : Given) (setting : Setting) (words rest : List (List ℕ)) → words ≡ setting_words setting ++ rest → IsInRange setting → Gives before words after
     → (more : List Setting) × (rest ≡ flat_map setting_words more) × AllByRecursion IsInRange more × (with_settings (with_setting before setting) more ≡ Some after)
 rest_given before after setting words rest words_are in_range gives = by_settings gives.settings gives.words_are gives.in_range gives.once where

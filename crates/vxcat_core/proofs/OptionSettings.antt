@@ -11,7 +11,7 @@ held : {A : Type 0} → Option A → List A
 held None = []
 held (Some n) = n ∷ []
 
--- Nothing is held by an option without a value that was not given.
+-- An option without a value that was not given holds nothing.
 held_flag : Bool → List Bool
 held_flag false = []
 held_flag true = true ∷ []
@@ -22,7 +22,7 @@ none_some given e = absurd (cc)
 abbrev given : Option ℕ → Option ℕ → Option (List ℕ) → Bool → Bool → Bool → Given
 given p r a u d v = record { pad = p; rows = r; allow = a; unknown = u; deep = d; revised = v }
 
--- Each kind holds what it held before, and after it what was given.
+-- Each kind holds what it held before, and then what was given.
 record Adds (p r : Option ℕ) (a : Option (List ℕ)) (u d v : Bool) (more : List Setting) (after : Given) : Type 0 where
   pub pads : held after.pad ≡ held p ++ filter_map pad_of more
   pub rows : held after.rows ≡ held r ++ filter_map rows_of more

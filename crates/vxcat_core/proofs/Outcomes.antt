@@ -12,7 +12,7 @@ use Rattle.vxcat_core.specs.Status.{status_number}
 use Rattle.vxcat_core.proofs.Endings.{expr_not_two, recode_not_two}
 use Rattle.vxcat_core.proofs.MakeEndings.{make_not_two}
 
--- A command that was run does not end with the number of none.
+-- A command that was run does not end with the status of no command.
 pub ends_not_two : (status : Status) (command : Command) (run : Run) → Ends status command run → status_number status ≡ 2 → ⊥
 ends_not_two status (recode line) run ends is = recode_not_two status line run ends is
 ends_not_two status (expr file) run ends is = expr_not_two status file run ends is
@@ -45,7 +45,7 @@ make_outcome SaveFault words line run invoked ends = (make line, invoked, ends)
 make_outcome WriteFault words line run invoked ends = (make line, invoked, ends)
 make_outcome status words line run invoked ends = absurd ends
 
--- How a command ends is the run's outcome, told by the number of its status.
+-- How a command ends is the run's outcome, by the number of its status.
 pub has_outcome : (number : ℕ) (status : Status) (words : List (List ℕ)) (command : Command) (run : Run) → number ≡ status_number status → Invokes words command → Ends status command run → HasOutcome number words run
 has_outcome number status words (recode line) run is invoked ends = record {
   status = status;

@@ -25,7 +25,7 @@ use Rattle.vxcat_core.proofs.IdLines.{lines_unique}
 use Rattle.vxcat_core.specs.RecodeViews.{AreMade, AreOutputs, RefusesBlob, RefusesIdFile, RefusesTypeFile}
 use Rattle.vxcat_core.specs.Statuses.{blob_status}
 
--- What holds of what is asked of bytes holds of what is asked of the same bytes.
+-- What holds of a request for bytes holds of a request for equal bytes.
 pub asked_alike : (P : Request → Type 0) (bytes blob : List ℕ) (dtype : Typ) (len : ℕ) (ids : List (List ℕ)) (context : Context) (session : SessionMeaning) (options : SerializeOptions)
     → bytes ≡ blob → P (request_for bytes dtype len ids context session options) → P (request_for blob dtype len ids context session options)
 asked_alike P bytes blob dtype len ids context session options e p = subst (λ (l : List ℕ). P (request_for l dtype len ids context session options)) e p
@@ -91,7 +91,7 @@ type_cause WriteFault line loaded bytes x e p s complete = absurd s
 type_cause BadIds line loaded bytes x e p s complete = absurd s
 type_cause (Refused error) line loaded bytes x e p s complete = absurd s
 
--- Where what was loaded can be recoded, its type file is refused for allocation failure alone.
+-- Where what was loaded can be recoded, the only refusal of its type file is allocation failure.
 pub type_memory : (status : Status) (line : Recode) (loaded : Loaded) (bytes : List ℕ) (x : ExtMeaning) → bytes ≡ loaded.type_bytes → x ≡ readers_of line.settings
     → ((t : Typ) → IsRead (ShowsType bytes) x t → status ≡ OutOfMemory) → CanRecodeInputs line loaded → status ≡ OutOfMemory
 type_memory status line loaded bytes x e p complete can =
@@ -122,7 +122,7 @@ allowed_cause WriteFault line loaded h = absurd h
 allowed_cause BadType line loaded h = absurd h
 allowed_cause (Refused error) line loaded h = absurd h
 
--- A file of which something is read is refused for allocation failure alone.
+-- Where something can be read from a file, its only refusal is allocation failure.
 pub ids_memory : {A : Type 0} (status : Status) (Reads : A → Type 0) → RefusesIdFile status Reads → (ids : A) → Reads ids → status ≡ OutOfMemory
 ids_memory OutOfMemory Reads h ids r = refl
 ids_memory BadIds Reads h ids r = absurd (h ids r)
@@ -135,7 +135,7 @@ ids_memory WriteFault Reads h ids r = absurd h
 ids_memory BadType Reads h ids r = absurd h
 ids_memory (Refused error) Reads h ids r = absurd h
 
--- Bytes are one list of allowed identifiers at most.
+-- Bytes are at most one list of allowed identifiers.
 allowed_unique : (bytes : Option (List ℕ)) (a b : Option (List (List ℕ))) → ReadsAllowed bytes a → ReadsAllowed bytes b → a ≡ b
 allowed_unique None None None r q = refl
 allowed_unique None (Some a) b r q = absurd r
@@ -183,7 +183,7 @@ module _ (line : Recode) (loaded : Loaded) (dtype : Typ) (read_ids ids : List (L
       let here = subst (λ (r : Request). IfErr result (λ s. RefusesBlob s r)) asked refused in
       IfErr-weaker result _ _ (blob_to_inputs line loaded terms read) here
 
-  -- What can be recoded on some terms can be so on those that were read.
+  -- What can be recoded on some terms can be recoded on those that were read.
   pub inputs_complete : (CanRecode (request_for loaded.blob dtype line.len ids context session options) → IfErr result (λ s. s ≡ OutOfMemory))
       → CanRecodeInputs line loaded → IfErr result (λ s. s ≡ OutOfMemory)
   unfolding terms

@@ -15,7 +15,7 @@ use Rattle.vx_rows.specs.declared.row.RowValue.{RowValue}
 use Rattle.vx_rows.specs.declared.row.RowValue.TheVariants as R
 use Rattle.vxcat_core.specs.RowText.{each_text, entry_text, entry_texts, further_text, parted, texts_by, value_text}
 
--- ---- what the recursion goes down by
+-- ---- the measure of the recursion
 
 -- A value in a list has no more nodes than the list.
 pub smaller_value : (vs : List RowValue) (i : ℕ) (v : RowValue) → i < length vs → v ≡ get_or vs i v → nodes (plain_value v) ≤ nodes_of (roses_of (plain_values vs))
@@ -29,14 +29,14 @@ abbrev pub is_first : List (List ℕ) → Bool
 is_first [] = true
 is_first (text ∷ texts) = false
 
--- One text more stands after the others.
+-- One more text after the others.
 parted-more : (texts : List (List ℕ)) (text : List ℕ) → parted (texts ++ text ∷ []) ≡ parted texts ++ (if is_first texts then text else further_text text)
 parted-more [] text = append-nil text
 parted-more (first ∷ texts) text =
     ap (λ (r : List ℕ). first ++ r) (flat_map-append further_text texts (text ∷ []) ∙ ap (λ (r : List ℕ). flat_map further_text texts ++ r) (append-nil (further_text text)))
     ∙ sym (append_assoc first (flat_map further_text texts) (further_text text))
 
--- A step of a loop that goes over texts.
+-- A step of a loop over texts.
 next_parted : (before after : List (List ℕ)) (text old new : List ℕ) (first : Bool) → after ≡ before ++ text ∷ [] → is_first before ≡ first → old ≡ parted before
     → new ≡ old ++ (if first then text else further_text text) → new ≡ parted after
 next_parted before after text old new first more_is first_is old_is new_is =

@@ -13,7 +13,7 @@ use Rattle.vx_registry.specs.Meaning.{arrays_meaning, session_meaning}
 use Rattle.vx_registry.proofs.LawsSessions.{shipped_alone, revised_alone}
 use Rattle.vxcat_core.specs.Recode.{readers_by, session_by, shipped_by}
 
--- Readers of extensions mean what those mean of which they are made.
+-- Readers of extensions mean what those mean that they are made of.
 pub readers_asked : {X : Type 0} {F : X → Type 0} (accepted : DynBox X Global F → List ℕ → Typ → Bool) (held made : ExtSession X F) (x : ExtMeaning)
     → held ≡ made → ext_meaning accepted made ≡ x → ext_meaning accepted held ≡ x
 readers_asked accepted held made x same is = ap (λ z. ext_meaning accepted z) same ∙ is
@@ -26,7 +26,7 @@ pub same_session : {Y : Type 0} {G : Y → Type 0} {X : Type 0} {F : X → Type 
 same_session means accepted session arrays ext revised unknown a e shipped none =
     ap (λ z. arrays_meaning means z (ext_meaning accepted session.ext)) a ∙ (shipped (ext_meaning accepted session.ext) ∙ ap (λ (x : ExtMeaning). shipped_by revised x) (readers_asked accepted session.ext ext (readers_by unknown) e none))
 
--- Once what is unknown is allowed, the readers of extensions are none, and their flag is set.
+-- Once what is unknown is allowed, there are no readers of extensions, and their flag is set.
 unknown_allowed : (x y : ExtMeaning) (unknown : Bool) → x ≡ readers_by false → ((id : List ℕ) → y.reader id ≡ x.reader id) → y.unknown ≡ true → unknown ≡ true → y ≡ readers_by unknown
 unknown_allowed x y unknown before readers allowed is = λ k. record { reader = λ id. (readers id ∙ ap (λ (m : ExtMeaning). m.reader id) before) k; unknown = (allowed ∙ sym is) k }
 
@@ -52,7 +52,7 @@ pub shipped_session : (revised : Bool) (x : ExtMeaning) → IsShipped (shipped_b
 shipped_session false x = shipped_alone x
 shipped_session true x = revised_alone x
 
--- What a session holds that was made with two identifiers of primitives, or with one, is what the flag asks.
+-- A session that was made with two identifiers of primitives, or with one, holds what the flag asks for.
 pub arrays_asked : {Y : Type 0} {G : Y → Type 0} (means : DynBox Y Global G → PluginMeaning) (held made : ArraySession Y G) (asked revised : Bool)
     → held ≡ made → asked ≡ revised → ((x : ExtMeaning) → arrays_meaning means made x ≡ shipped_by revised x) → (x : ExtMeaning) → arrays_meaning means held x ≡ shipped_by asked x
 arrays_asked means held made asked revised same is shipped x = ap (λ z. arrays_meaning means z x) same ∙ (shipped x ∙ ap (λ (t : Bool). shipped_by t x) (sym is))

@@ -1,4 +1,4 @@
--- That the table which a number tells keeps the limits on writing, and that its blob spells it.
+-- The table of a seed keeps the limits on writing, and its blob spells it.
 use Rattle.std.proofs.Common.{ℕ, zero, suc, ◌≡◌, ◌+◌, ◌*◌, ◌/◌, ◌<◌, ◌≤◌, ◌^◌, ◌%◌, Bool, true, false, List, [], ◌∷◌, ◌++◌, Option, None, Some, inl, inr, length, replicate, is_some, refl, sym, ap, ◌∙◌, subst, arith}
 use Rattle.std.specs.Prelude.{nat_lt, ◌==◌, if◌then◌else◌}
 use Rattle.std.proofs.lemmas.List.{length-append}
@@ -77,7 +77,7 @@ use Rattle.vx_generator.proofs.Laws.{made_sound, made_normal, made_stats, small,
 
 -- ---- how long a layout is at most
 
--- A block takes so many bytes at most, and what is left out in front of it.
+-- The greatest length of a block, with what is left out before it.
 abbrev size : Block → ℕ
 size (table_block cs) = 7 + (align 8 (4 + 2 * length cs) + inline_end 4 cs)
 size (elements_block n bs) = 11 + length bs
@@ -150,7 +150,7 @@ bool_short = omega arith
 
 -- ---- the table's message
 
--- The table's nodes in a message, by the metadata of the three that keep some.
+-- The table's nodes in a message, by the metadata of the three that have some.
 abbrev fields_of_node : ℕ → List ℕ → List ℕ → NodeFields
 fields_of_node encoding metadata numbers = record { encoding = encoding; metadata = metadata; buffers = numbers; stats = stats_field no_stats }
 
@@ -195,7 +195,7 @@ table_written seed rows = (
   ),
 )
 
--- No plugin writes it, so it is written as it stands.
+-- No plugin writes it, so it is written unchanged.
 session_shipped : IsShipped make_session
 session_shipped = shipped_alone no_readers
 
@@ -401,7 +401,7 @@ module _ (seed rows : ℕ) (h : rows ≤ 1000000) where
       }
 
   module _ (after : Context) (buffers : List Buffer) (x : IsSerialized make_session t make_options no_ids after buffers) where
-    -- The blob is that of the table as it stands.
+    -- The blob is that of the unchanged table.
     blob : IsWrittenBlob make_session t make_options no_ids after buffers
     blob = subst (λ (z : Tree). IsWrittenBlob make_session z make_options no_ids after buffers) (table_whole seed rows) x.blob
 
@@ -445,7 +445,7 @@ type_fits = omega arith
 not_failed : nothing_built.failed ≡ true → ⊥
 not_failed e = absurd (cc)
 
--- Only memory can be wanting where the type is written.
+-- The only refusal where the type is written is allocation failure.
 pub type_memory : (e : TypeWireError) → T.RefusesWritingTypeTable made_type nothing_built e → e ≡ type_error.OutOfMemory
 type_memory type_error.OutOfMemory h = refl
 type_memory type_error.WireLimit (inl h) = absurd (h type_writable)
@@ -463,7 +463,7 @@ type_memory type_error.ExtensionRefused h = absurd h
 pub type_known : IsKnown no_readers made_type
 type_known = (tt, ((tt, tt), ((tt, tt), ((tt, ((tt, tt), tt)), tt))))
 
--- ---- only memory can be wanting where the table is written
+-- ---- the only refusal where the table is written is allocation failure
 
 pub table_memory : (seed rows : ℕ) → rows ≤ 1000000 → (e : WireError) → RefusesArray make_session (made seed rows) no_ids make_options e → e ≡ wire_error.OutOfMemory
 table_memory seed rows h wire_error.OutOfMemory r = refl

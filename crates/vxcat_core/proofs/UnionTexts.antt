@@ -34,13 +34,13 @@ next_suc tag (y ∷ ids) [] i x h k e = absurd (omega (arith, k))
 next_suc tag (y ∷ ids) (c ∷ ds) zero x h k e = named_later tag y ids (typ c) (roses_of (typs ds)) e
 next_suc tag (y ∷ ids) (c ∷ ds) (suc i) x h k e = next_suc tag ids ds i x (omega (arith, h)) (omega (arith, k)) e
 
--- The one at which the search stands has the tag, and is found.
+-- The member at which the search stands has the tag, and is found.
 pub named_here : (tag : ℕ) (ids : List ℕ) (ds : List DType) (i x : ℕ) (d : DType) → i < min (length ids) (length ds) → member tag (drop i ids) (roses_of (typs (drop i ds))) ≡ member tag ids (roses_of (typs ds))
     → d ≡ get_or ds i d → get_or ids i x ≡ tag → Some (typ d) ≡ member tag ids (roses_of (typs ds))
 named_here tag ids ds i x d h q f g =
     ap (λ (z : DType). Some (typ z)) f ∙ found_suc tag ids ds i x d (omega (arith, h)) (omega (arith, h)) g ∙ q
 
--- Else it goes on.
+-- Else the search goes on.
 pub named_next : (tag : ℕ) (ids : List ℕ) (ds : List DType) (i x : ℕ) → i < min (length ids) (length ds) → member tag (drop i ids) (roses_of (typs (drop i ds))) ≡ member tag ids (roses_of (typs ds))
     → (get_or ids i x ≡ tag → ⊥) → member tag (drop (i + 1) ids) (roses_of (typs (drop (i + 1) ds))) ≡ member tag ids (roses_of (typs ds))
 named_next tag ids ds i x h q f = rw (add-one i) (sym (next_suc tag ids ds i x (omega (arith, h)) (omega (arith, h)) f) ∙ q)
@@ -57,7 +57,7 @@ none_left tag (x ∷ xs) [] (suc j) l = none_at_end tag (drop j xs)
 none_left tag (x ∷ xs) (d ∷ ds) zero l = absurd (omega (arith, l))
 none_left tag (x ∷ xs) (d ∷ ds) (suc j) l = none_left tag xs ds j (omega (arith, l))
 
--- At the end none has it.
+-- At the end no member has it.
 pub named_none : (tag : ℕ) (ids : List ℕ) (ds : List DType) (i : ℕ) → min (length ids) (length ds) ≤ i → member tag (drop i ids) (roses_of (typs (drop i ds))) ≡ member tag ids (roses_of (typs ds)) → None ≡ member tag ids (roses_of (typs ds))
 named_none tag ids ds i h q = sym (none_left tag ids ds i h) ∙ q
 

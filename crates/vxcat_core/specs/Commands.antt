@@ -1,4 +1,4 @@
--- The commands of the program, a case for each line of the table: every definition here goes by these.
+-- The commands of the program, a case for each line of the table; every definition here goes by these cases.
 use Rattle.std.specs.Prelude.{ℕ, List}
 use Rattle.vxcat_core.specs.declared.status.Status.{Status}
 use Rattle.vxcat_core.specs.ExprCommand.{CanEndExpr, EndsExpr, InvokesExpr}

@@ -22,7 +22,7 @@ InvokesExpr words file = words ≡ codes "expr" ∷ file ∷ []
 abbrev pub no_functions : Registry ScalarFn
 no_functions = λ id. None
 
--- Bytes are read as an expression under these, where unknown functions are allowed.
+-- Bytes are read as an expression in this registry, where unknown functions are allowed.
 abbrev pub IsReadAsExpression : List ℕ → Expr → Type 0
 IsReadAsExpression bytes e = ReadsExprBytes no_functions true bytes e
 
@@ -30,7 +30,8 @@ IsReadAsExpression bytes e = ReadsExprBytes no_functions true bytes e
 abbrev pub two_lines : Expr → List ℕ → List ℕ
 two_lines e bytes = expr_text e ++ (codes "\n" ++ (encode_lower bytes ++ codes "\n"))
 
--- The lines of an expression have its text, and the bytes by which its message is written, whatever bytes it was read of.
+-- The lines of an expression have its text, and the bytes as which its message is written, whatever bytes it was read
+-- from.
 abbrev pub lines_of : Expr → List ℕ
 lines_of e = two_lines e (written expr_lists 0 (expr_message e))
 
@@ -40,7 +41,7 @@ RefusesExpr OutOfMemory bytes = Unit {0}
 RefusesExpr BadExpression bytes = (e : Expr) → ¬ (IsReadAsExpression bytes e)
 RefusesExpr status bytes = ⊥
 
--- It came to its lines: nothing is saved, and of the lines there was printed what is said of it.
+-- It came to its lines: nothing is saved, and of the lines there was printed what the argument says.
 pub record EndsPrintingExpr (file : List ℕ) (run : Run) (IsPrinted : Run → List ℕ → Type 0) : Type 0 where
   pub bytes : List ℕ
   pub expr : Expr

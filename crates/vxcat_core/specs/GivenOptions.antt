@@ -29,7 +29,7 @@ pub record Given : Type 0 where
 abbrev pub given_in : Options → Given
 given_in o = record { pad = o.pad; rows = o.rows; allow = option_map (λ name. name.now) o.allow; unknown = o.unknown; deep = o.deep; revised = o.revised }
 
--- What given options set.
+-- The settings of the options that were given.
 abbrev pub settings_by : Given → Settings
 settings_by given = record { pad = given.pad; rows = unwrap_or given.rows 10; allow = given.allow; unknown = given.unknown; deep = given.deep; revised = given.revised }
 
@@ -37,7 +37,7 @@ settings_by given = record { pad = given.pad; rows = unwrap_or given.rows 10; al
 abbrev pub none_given : Given
 none_given = record { pad = None; rows = None; allow = None; unknown = false; deep = false; revised = false }
 
--- What one kind of option gives, where none of its kind was given before; none where one was.
+-- What an option of one kind gives where none of its kind was given before; none where one was.
 abbrev pub given_once : {A : Type 0} → Option A → A → Option (Option A)
 given_once None a = Some (Some a)
 given_once (Some b) a = None
@@ -56,13 +56,13 @@ with_setting given options.unknown = option_map (λ u. record given { unknown = 
 with_setting given options.deep = option_map (λ d. record given { deep = d }) (set_once given.deep)
 with_setting given options.revised = option_map (λ v. record given { revised = v }) (set_once given.revised)
 
--- Options with more, one after the other: none where two are of a kind.
+-- Options with more, one after the other: none where two are of one kind.
 abbrev pub with_settings : Option Given → List Setting → Option Given
 with_settings given [] = given
 with_settings None (setting ∷ more) = with_settings None more
 with_settings (Some given) (setting ∷ more) = with_settings (with_setting given setting) more
 
--- The words are options that give these, beside those that were given before.
+-- The words are options that, added to those before, give these.
 pub record Gives (before : Given) (words : List (List ℕ)) (after : Given) : Type 0 where
   pub settings : List Setting
   pub words_are : words ≡ flat_map setting_words settings

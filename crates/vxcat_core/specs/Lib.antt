@@ -12,7 +12,7 @@ pub mod SinkState
 pub mod Status
 pub mod StoreState
 pub mod Written
--- What the contracts of private functions alone cite.
+-- What only the contracts of private functions cite.
 pub mod GivenOptions
 pub mod MakeViews
 pub mod RecodeViews

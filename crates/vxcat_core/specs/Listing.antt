@@ -7,7 +7,7 @@ use Rattle.vx_array_tree.specs.Tree.{Tree, Trees, Head, row_at, cells}
 use Rattle.vx_array_tree.specs.Table.{buffers_of, own_id}
 use Rattle.vxcat_core.specs.RowText.{value_text}
 
--- A buffer is listed by the number of its bytes.
+-- A buffer is listed by its length in bytes.
 abbrev pub length_text : Buffer → List ℕ
 length_text buffer = decimal (length buffer.bytes)
 
@@ -25,7 +25,7 @@ abbrev pub node_line : List ℕ → Head → List ℕ
 node_line indent head =
     indent ++ (own_id head.body ++ (codes " len=" ++ (decimal head.len ++ (codes " buffers=[" ++ (lengths_text (buffers_of head.body) ++ codes "]\n")))))
 
--- The nodes stand in preorder, each two spaces further in than its parent.
+-- The nodes stand in preorder, each indented by two spaces more than its parent.
 abbrev mutual
   pub node_lines : List ℕ → Tree → List ℕ
   node_lines indent (node head children) = node_line indent head ++ node_lines_below (indent ++ codes "  ") children
@@ -42,11 +42,11 @@ shown_row tree i = if nat_lt 10000 (cells tree i) then codes "(large)" else valu
 abbrev pub row_line : Tree → ℕ → List ℕ
 row_line tree i = decimal i ++ (codes ": " ++ (shown_row tree i ++ codes "\n"))
 
--- As many rows, one after the other, from a first one on.
+-- n rows, one after the other, from a first one on.
 abbrev pub row_lines : Tree → ℕ → ℕ → List ℕ
 row_lines tree first zero = []
 row_lines tree first (suc count) = row_line tree first ++ row_lines tree (first + 1) count
 
--- The listing has the lines of all nodes, and then those of the first rows, as many as are asked for and are there.
+-- The listing has the lines of all nodes, and then those of the first rows, as many as are asked for and exist.
 abbrev pub listing : Tree → ℕ → List ℕ
 listing tree rows = node_lines [] tree ++ row_lines tree 0 (min rows (label tree).len)

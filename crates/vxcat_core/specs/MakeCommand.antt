@@ -26,7 +26,7 @@ use Rattle.vxcat_core.specs.StoreState.{HasRisen, LoadsNothing, Stands, StoreSta
 
 -- ---- the words
 
--- What the words of the command name: the seed, how many rows, and the files of the type, of the blob and of its
+-- What the words of the command name: the seed, the number of rows, and the files of the type, of the blob and of its
 -- identifiers.
 pub record Make : Type 0 where
   pub seed : ℕ
@@ -51,15 +51,15 @@ pub record InvokesMake (words : List (List ℕ)) (line : Make) : Type 0 where
 
 -- ---- what is made
 
--- What reads and writes arrays: the encodings that are shipped, and no readers of extensions.
+-- What reads and writes arrays: the shipped encodings, and no readers of extensions.
 abbrev pub make_session : SessionMeaning
 make_session = shipped_meaning no_readers
 
--- The context under which the blob is written: it has no identifiers, and allows each.
+-- The context under which the blob is written: it has no identifiers, and allows all.
 abbrev pub no_ids : Context
 no_ids = context_of None
 
--- How the blob is written: without pads, and no deeper than plain trees are.
+-- How the blob is written: without pads, and with the limits of plain trees.
 abbrev pub make_options : SerializeOptions
 make_options = plain_options
 
@@ -69,8 +69,8 @@ pub record MadeFiles : Type 0 where
   pub blob : List ℕ
   pub ids : List (List ℕ)
 
--- A blob is the one that is written for an array, without pads, under a context without identifiers; with those that this
--- context has grown by, it spells the array.
+-- The blob is the one that is written for an array, without pads, under a context without identifiers; with the
+-- identifiers by which this context has grown, it spells the array.
 pub record IsMadeBlob (array : Tree) (blob : List ℕ) (ids : List (List ℕ)) : Type 0 where
   pub written : blob ≡ blob_of make_session array no_ids make_options
   pub ids_grown : grown codec make_session no_ids array ≡ Some (record { ids = ids; allowed = None })
@@ -83,7 +83,7 @@ pub record AreFilesOf (array : Tree) (files : MadeFiles) : Type 0 where
   pub type_read : IsRead (ShowsType files.type_bytes) no_readers (label array).dtype
   pub blob : IsMadeBlob array files.blob files.ids
 
--- The table that the words ask for: the one that the seed and the number of rows tell.
+-- The table that the words ask for: that of the seed and the number of rows.
 abbrev pub table_of : Make → Tree
 table_of line = made line.seed line.rows
 
@@ -95,11 +95,11 @@ pub record AreMadeSaved (line : Make) (after : StoreState) (files : MadeFiles) :
   pub blob_saved : Stands after line.out files.blob
   pub ids_saved : Stands after line.id_file (id_text files.ids)
 
--- A name holds what it held.
+-- A name holds what it held before.
 abbrev pub KeepsName : StoreState → StoreState → List ℕ → Type 0
 KeepsName before after name = IsTrue before.tells → after.file name ≡ before.file name
 
--- Names that are no outputs of the command hold what they held.
+-- Names that are no outputs of the command hold what they held before.
 pub record KeepsAllOthers (line : Make) (before after : StoreState) : Type 0 where
   pub told : after.tells ≡ before.tells
   pub files : (name : List ℕ) → name ≢ line.type_file → name ≢ line.out → name ≢ line.id_file → KeepsName before after name
@@ -110,7 +110,8 @@ pub data Output : Type 0 where
   at_blob : Output
   at_ids : Output
 
--- The outputs before that one are saved, and those after it were not touched. What stands at its own name is not said.
+-- The outputs before that one are saved, and those after it are untouched. Nothing is said of what stands at its own
+-- name.
 abbrev pub StopsAt : Output → Make → StoreState → StoreState → MadeFiles → Type 0
 StopsAt at_type line before after files = KeepsName before after line.out × KeepsName before after line.id_file
 StopsAt at_blob line before after files = Stands after line.type_file files.type_bytes × KeepsName before after line.id_file
@@ -134,8 +135,8 @@ pub record EndsAtSave (line : Make) (run : Run) : Type 0 where
   pub others : KeepsAllOthers line run.before run.after
   pub unprinted : Keeps run.out_before.written run.out_after.written
 
--- It came to its line: nothing was loaded, its outputs are saved, other names hold what they held, and of the line that the table is told by
--- there was printed what is said of it.
+-- It came to its line: nothing was loaded, its outputs are saved, other names hold what they held, and of the table's
+-- line there was printed what the argument says.
 pub record EndsAtLine (line : Make) (run : Run) (IsPrinted : Run → List ℕ → Type 0) : Type 0 where
   pub loaded : LoadsNothing run.before run.after
   pub files : MadeFiles
@@ -144,10 +145,10 @@ pub record EndsAtLine (line : Make) (run : Run) (IsPrinted : Run → List ℕ �
   pub others : KeepsAllOthers line run.before run.after
   pub printed : IsPrinted run (summary (table_of line))
 
--- How it ends, by its status; whichever it is, nothing was loaded. 0: the outputs are saved and the line is printed. 1: nothing is saved, or the saves ended at
--- one of the outputs, and nothing is printed. 4: the count of save faults rose, and the saves ended at one of the outputs.
--- 5: the count of the sink's faults rose, the outputs are saved, and a prefix of the line is printed. There is no other end
--- for these words.
+-- How it ends, by its status; whichever it is, nothing was loaded. 0: the outputs are saved and the line is printed. 1:
+-- nothing is saved, or the saves ended at one of the outputs, and nothing is printed. 4: the count of save faults rose,
+-- and the saves ended at one of the outputs. 5: the count of the sink's faults rose, the outputs are saved, and a
+-- prefix of the line is printed. There is no other end for these words.
 abbrev pub EndsMake : Status → Make → Run → Type 0
 EndsMake Done line run = EndsAtLine line run Prints
 EndsMake OutOfMemory line run = EndsUnsaved run ⊎ EndsAtSave line run

@@ -17,7 +17,7 @@ use Rattle.vxcat_core.specs.declared.recode.steps.Outputs.{Outputs}
 use Rattle.vxcat_core.specs.MakeCommand.{AreFilesOf, IsMadeBlob, Make, MadeFiles, Output, StopsAt, make_options, make_session, no_ids}
 use Rattle.vxcat_core.specs.StoreState.{StoreState}
 
--- The line that words lend.
+-- The line of the words.
 abbrev pub make_line : MakeWords → Make
 make_line words = record {
   seed = words.seed;
@@ -31,12 +31,12 @@ make_line words = record {
 abbrev pub files_of : MadeOutputs → MadeFiles
 files_of outputs = record { type_bytes = outputs.type_bytes; blob = joined outputs.buffers; ids = outputs.ids }
 
--- The outputs are those of an array, and their text is the line that it is told by.
+-- The outputs are those of an array, and their text is the array's line.
 pub record AreOutputsOf (array : Tree) (outputs : MadeOutputs) : Type 0 where
   pub are_made : AreFilesOf array (files_of outputs)
   pub line_is : string_bytes outputs.line ≡ summary array
 
--- An array is a table that some seed and some number of rows tell.
+-- An array is the table of some seed and some number of rows.
 pub record IsTable (array : Tree) : Type 0 where
   pub seed : ℕ
   pub rows : ℕ

@@ -2,9 +2,9 @@
 use Rattle.std.specs.Prelude.{ℕ, ◌<◌, ◌≤◌, ◌^◌, Bool, true, false, List, [], ◌∷◌, Option, Some, None, codes, decimal, length, slice_get, unwrap_or}
 use Rattle.std.specs.List.{AllByRecursion, filter_map}
 
--- An option after the words of a command: the position at which pads are written as if the blob stood there, how many rows
--- a listing has, the file of the identifiers that the new blob may have, that unknown encodings and unknown extensions are
--- allowed, that deep trees are, or that primitives have two identifiers.
+-- An option after the words of a command: the position at which pads are written as if the blob stood there, the number
+-- of rows of a listing, the file of the identifiers that the new blob may have, that unknown encodings and unknown
+-- extensions are allowed, that deep trees are, or that primitives have two identifiers.
 pub data Setting : Type 0 where
   pad : ℕ → Setting
   rows : ℕ → Setting
@@ -31,7 +31,7 @@ IsInRange unknown = Unit {0}
 IsInRange deep = Unit {0}
 IsInRange revised = Unit {0}
 
--- What an option gives by `--pad`, by `--rows`, by `--allow`, by `--unknown`, by `--deep` and by `--rev2`, if it is that one.
+-- What an option gives for `--pad`, `--rows`, `--allow`, `--unknown`, `--deep` and `--rev2`, if it is that one.
 abbrev pub pad_of : Setting → Option ℕ
 pad_of (pad n) = Some n
 pad_of (rows n) = None
@@ -80,7 +80,7 @@ revised_of unknown = None
 revised_of deep = None
 revised_of revised = Some true
 
--- Options stand in any order, each in its range, and no two of a kind.
+-- Options stand in any order, each in its range, and no two of one kind.
 pub record AreOptions (given : List Setting) : Type 0 where
   pub in_range : AllByRecursion IsInRange given
   pub pad_once : length (filter_map pad_of given) ≤ 1
@@ -90,9 +90,9 @@ pub record AreOptions (given : List Setting) : Type 0 where
   pub deep_once : length (filter_map deep_of given) ≤ 1
   pub revised_once : length (filter_map revised_of given) ≤ 1
 
--- What options set: the position at which pads are written as if the blob stood there, if any; how many rows a listing has;
--- the file of the identifiers that the new blob may have, if any; whether unknown encodings and unknown extensions are
--- allowed; whether deep trees are; and whether primitives have two identifiers.
+-- What options set: the position at which pads are written as if the blob stood there, if any; the number of rows of a
+-- listing; the file of the identifiers that the new blob may have, if any; whether unknown encodings and unknown
+-- extensions are allowed; whether deep trees are; and whether primitives have two identifiers.
 pub record Settings : Type 0 where
   pub pad : Option ℕ
   pub rows : ℕ
@@ -101,8 +101,8 @@ pub record Settings : Type 0 where
   pub deep : Bool
   pub revised : Bool
 
--- A listing has as many rows as `--rows` says, and ten without it. What is unknown is allowed where `--unknown` stands, deep
--- trees are where `--deep` does, and primitives have two identifiers where `--rev2` does.
+-- A listing has as many rows as `--rows` says, and ten without it. What is unknown is allowed where `--unknown` is
+-- given, deep trees where `--deep` is, and primitives have two identifiers where `--rev2` is.
 abbrev pub settings_of : List Setting → Settings
 settings_of given = record {
   pad = slice_get (filter_map pad_of given) 0;

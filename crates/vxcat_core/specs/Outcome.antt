@@ -7,7 +7,8 @@ use Rattle.vxcat_core.specs.RunState.{IsUntouched, Run}
 use Rattle.vxcat_core.specs.Status.{status_number}
 use Rattle.vxcat_core.specs.StoreState.{StoreState}
 
--- How a run ends: at 2 the words invoke no command, and nothing is saved or printed; else they invoke one, and it ends so.
+-- How a run ends: at 2 the words invoke no command, and nothing is saved or printed; else they invoke one, and it ends
+-- with the status.
 abbrev pub Outcome : Status → List (List ℕ) → Run → Type 0
 Outcome NoCommand words run = ((command : Command) → ¬ (Invokes words command)) × IsUntouched run
 Outcome status words run = (command : Command) × Invokes words command × Ends status command run

@@ -49,7 +49,7 @@ pub record InvokesRecode (words : List (List ℕ)) (line : Recode) : Type 0 wher
 
 -- ---- the inputs
 
--- A name that is given is one to load.
+-- The name, where one is given, as a name to load.
 abbrev pub if_named : Option (List ℕ) → List (List ℕ)
 if_named None = []
 if_named (Some name) = name ∷ []
@@ -65,7 +65,7 @@ pub record Loaded : Type 0 where
   pub id_bytes : List ℕ
   pub allow_bytes : Option (List ℕ)
 
--- Bytes stand at a name, where one is given, and else there are none.
+-- Bytes stand at a name, where one is given; where none is, there are none.
 abbrev pub StandsIfNamed : StoreState → Option (List ℕ) → Option (List ℕ) → Type 0
 StandsIfNamed store None None = Unit {0}
 StandsIfNamed store (Some name) (Some bytes) = Stands store name bytes
@@ -80,15 +80,15 @@ pub record AreInputs (line : Recode) (store : StoreState) (loaded : Loaded) : Ty
 
 -- ---- what is asked
 
--- The readers of extensions: there are none, and extensions are allowed all the same where what is unknown is.
+-- The readers of extensions: there are none, and extensions are allowed without them where what is unknown is.
 abbrev pub readers_by : Bool → ExtMeaning
 readers_by unknown = record { reader = λ id. None; unknown = unknown }
 
--- What is unknown is allowed where `--unknown` stands; without it no extension stands in a type.
+-- What is unknown is allowed where `--unknown` is given; without it no extension stands in a type.
 abbrev pub readers_of : Settings → ExtMeaning
 readers_of settings = readers_by settings.unknown
 
--- What reads and writes arrays beside readers of extensions: the encodings that are shipped, where primitives have two
+-- What reads and writes arrays beside readers of extensions: the shipped encodings, where primitives have two
 -- identifiers or one.
 abbrev pub shipped_by : Bool → ExtMeaning → SessionMeaning
 shipped_by false x = shipped_meaning x
@@ -98,21 +98,23 @@ shipped_by true x = revised_meaning x
 abbrev pub session_by : Bool → Bool → SessionMeaning
 session_by revised unknown = shipped_by revised (readers_by unknown)
 
--- Primitives have two identifiers where `--rev2` stands, and else one.
+-- Primitives have two identifiers where `--rev2` is given, and else one.
 abbrev pub session_of : Settings → SessionMeaning
 session_of settings = session_by settings.revised settings.unknown
 
--- The context under which the new blob is written: it has no identifiers, and allows those of the file that is named, or
--- each encoding where none is.
+-- The context under which the new blob is written: it has no identifiers, and allows those of the file that is named,
+-- or all where none is.
 abbrev pub context_of : Option (List (List ℕ)) → Context
 context_of allowed = record { ids = []; allowed = option_map (λ ids. with_ids [] ids) allowed }
 
--- Without `--pad` no pads are written; with it they are, as at its position. With `--deep` deep trees are read and written.
+-- Without `--pad` no pads are written; with it they are, as at its position. With `--deep` deep trees are read and
+-- written.
 abbrev pub padded_at : Option ℕ → Bool → SerializeOptions
 padded_at None deep = record { offset = 0; include_padding = false; deep = deep }
 padded_at (Some offset) deep = record { offset = offset; include_padding = true; deep = deep }
 
--- What the files say beside the blob: the type, the identifiers to read with, and those that are allowed, if a file says so.
+-- What the files say beside the blob: the type, the identifiers to read with, and those that are allowed, if a file
+-- says so.
 pub record Terms : Type 0 where
   pub dtype : Typ
   pub ids : List (List ℕ)
@@ -152,9 +154,9 @@ pub record CanRecodeInputs (line : Recode) (loaded : Loaded) : Type 0 where
   pub are_read : AreRead line loaded terms
   pub can_recode : CanRecode (asked_by line loaded terms)
 
--- Why what was loaded is not recoded: the type file shows no type within the limits, or one with an extension that is not
--- allowed; an id file, or the file of those that are allowed, is no text of at most 65,536 lines; or the blob is refused at
--- the type and with the identifiers that were read. Allocation failure needs no cause.
+-- Why what was loaded is not recoded: the type file shows no type within the limits, or one with an extension that is
+-- not allowed; an id file, or the file of those that are allowed, is no text of at most 65,536 lines; or the blob is
+-- refused at the type and with the identifiers that were read. Allocation failure needs no cause.
 abbrev pub RefusesInputs : Status → Recode → Loaded → Type 0
 RefusesInputs OutOfMemory line loaded = Unit {0}
 RefusesInputs BadType line loaded = (dtype : Typ) → ¬ (IsRead (ShowsType loaded.type_bytes) (readers_of line.settings) dtype)
@@ -165,7 +167,7 @@ RefusesInputs status line loaded = ⊥
 
 -- ---- what is saved
 
--- Names that are no outputs of the command hold what they held.
+-- Names that are no outputs of the command hold what they held before.
 pub record KeepsOthers (line : Recode) (before after : StoreState) : Type 0 where
   pub told : after.tells ≡ before.tells
   pub files : IsTrue before.tells → (name : List ℕ) → name ≢ line.out → name ≢ line.out_ids → after.file name ≡ before.file name
@@ -199,7 +201,7 @@ pub record EndsSaving (line : Recode) (run : Run) : Type 0 where
   pub unprinted : Keeps run.out_before.written run.out_after.written
 
 -- It came to its listing: its outputs are saved, other names hold what they held, and of the listing there was printed
--- what is said of it.
+-- what the argument says.
 pub record EndsPrinting (line : Recode) (run : Run) (IsPrinted : Run → List ℕ → Type 0) : Type 0 where
   pub work : Work line run.before
   pub saved : AreSaved line run.after (joined work.made.buffers) work.made.context.ids
@@ -231,7 +233,7 @@ EndsRecode SaveFault line run = HasRisen run.before.save_faults run.after.save_f
 EndsRecode WriteFault line run = HasRisen run.out_before.faults run.out_after.faults × EndsPrinting line run PrintsPrefix
 EndsRecode status line run = EndsRefused status line run
 
--- It can end well: the store tells its files, and inputs among them that can be recoded.
+-- It can end well: the store tells its files, and among them inputs that can be recoded.
 pub record CanEndRecode (line : Recode) (before : StoreState) : Type 0 where
   pub tells : IsTrue before.tells
   pub loaded : Loaded

@@ -17,7 +17,7 @@ use Rattle.vxcat_core.specs.Recode.{IsMade, Loaded, Recode}
 use Rattle.vxcat_core.specs.Status.{wire_error}
 use Rattle.vxcat_core.specs.StoreState.{HasRisen, StoreState}
 
--- The line that words lend.
+-- The line of the words.
 abbrev pub line_of : RecodeWords → Recode
 line_of words = record {
   type_file = words.type_file.now;
@@ -54,31 +54,31 @@ pub record AreMade (asked : Request) (outputs : Outputs) : Type 0 where
 
 -- ---- the status of a step that is refused
 
--- A load fails where the count of load faults rose, or wants memory.
+-- A load fails where the count of load faults rose, or where allocation failed.
 abbrev pub RefusesLoad : Status → StoreState → StoreState → Type 0
 RefusesLoad LoadFault before after = HasRisen before.load_faults after.load_faults
 RefusesLoad OutOfMemory before after = Unit {0}
 RefusesLoad status before after = ⊥
 
--- A save fails where the count of save faults rose, or wants memory.
+-- A save fails where the count of save faults rose, or where allocation failed.
 abbrev pub RefusesSave : Status → StoreState → StoreState → Type 0
 RefusesSave SaveFault before after = HasRisen before.save_faults after.save_faults
 RefusesSave OutOfMemory before after = Unit {0}
 RefusesSave status before after = ⊥
 
--- A type file is a bad one, or wants memory.
+-- A type file is a bad one, or allocation failed.
 abbrev pub RefusesTypeFile : Status → Type 0
 RefusesTypeFile OutOfMemory = Unit {0}
 RefusesTypeFile BadType = Unit {0}
 RefusesTypeFile status = ⊥
 
--- An id file is a bad one where nothing is read of it, or memory is wanted.
+-- An id file is a bad one where nothing is read from it, or allocation failed.
 abbrev pub RefusesIdFile : {A : Type 0} → Status → (A → Type 0) → Type 0
 RefusesIdFile OutOfMemory Reads = Unit {0}
 RefusesIdFile {A} BadIds Reads = (ids : A) → ¬ (Reads ids)
 RefusesIdFile status Reads = ⊥
 
--- A blob is refused with its cause, or wants memory.
+-- A blob is refused with its cause, or allocation failed.
 abbrev pub RefusesBlob : Status → Request → Type 0
 RefusesBlob OutOfMemory asked = Unit {0}
 RefusesBlob (Refused refusal) asked = Refuses asked (wire_error refusal)

@@ -52,13 +52,13 @@ bytes_text bytes = codes "x" ++ encode_lower bytes
 abbrev pub further_text : List ℕ → List ℕ
 further_text text = codes ", " ++ text
 
--- Texts one after the other, split by a comma and a space.
+-- Texts one after the other, with a comma and a space between them.
 abbrev pub parted : List (List ℕ) → List ℕ
 parted [] = []
 parted (text ∷ texts) = text ++ flat_map further_text texts
 
--- A tuple is a row of a list, printed as `[a, b]`, of a structure, as `{a, b}`, or of a map, as `{k=>v, k=>v}`. (How a
--- tuple would be printed at any other type does not matter.)
+-- A tuple is a row of a list, printed as `[a, b]`, of a structure, as `{a, b}`, or of a map, as `{k=>v, k=>v}`. (At any
+-- other type any text will do.)
 abbrev pub tuple_text : (Typ → List (List ℕ)) → (Roses Kind → List (List ℕ)) → (Typ → Typ → List (List ℕ)) → Typ → List ℕ
 tuple_text Each By Entries (node (list m) (more e end)) = codes "[" ++ (parted (Each e) ++ codes "]")
 tuple_text Each By Entries (node (fixed_size_list n m) (more e end)) = codes "[" ++ (parted (Each e) ++ codes "]")
@@ -66,17 +66,18 @@ tuple_text Each By Entries (node (structure names m) ts) = codes "{" ++ (parted 
 tuple_text Each By Entries (node (map sorted m) (more k (more v end))) = codes "{" ++ (parted (Entries k v) ++ codes "}")
 tuple_text Each By Entries _ = codes "?"
 
--- The type of the member under a tag, of a union's type.
+-- The type of the member with a tag, of a union's type.
 abbrev pub member_under : ℕ → Typ → Option Typ
 member_under tag (node (union_kind names tags m) ts) = member tag tags ts
 member_under tag _ = None
 
--- The types below a union's type that are of the member under a tag: one, where there is such a member.
+-- The types below a union's type that are of the member with a tag: one, where there is such a member.
 abbrev pub member_types : ℕ → Typ → Roses Kind
 member_types tag t = elim (member_under tag t) [ Some d ↦ more d end | None ↦ end ]
 
 abbrev mutual
-  -- The text of a value, by its type: a union as `#5(a)`, a variant as `v(a)`, and what nothing is known of as `?`.
+  -- The text of a value, by its type: a union as `#5(a)`, a variant as `v(a)`, and a value of which nothing is known as
+  -- `?`.
   pub value_text : Value → Typ → List ℕ
   value_text (node null vs) d = codes "null"
   value_text (node opaque vs) d = codes "?"

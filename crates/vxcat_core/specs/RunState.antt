@@ -26,7 +26,7 @@ pub record IsUntouched (run : Run) : Type 0 where
 abbrev pub Prints : Run → List ℕ → Type 0
 Prints run text = Appends run.out_before.written run.out_after.written text
 
--- Some prefix of the text was printed, maybe none of it or the whole.
+-- Some prefix of the text was printed, possibly none of it or all.
 abbrev pub PrintsPrefix : Run → List ℕ → Type 0
 PrintsPrefix run text = AppendsPrefix run.out_before.written run.out_after.written text
 

@@ -8,7 +8,7 @@ use Rattle.vxcat_core.specs.declared.status.BlobRefusal.TheVariants as refusal
 use Rattle.vxcat_core.specs.declared.status.Status.{Status}
 use Rattle.vxcat_core.specs.declared.status.Status.TheVariants.{Done, OutOfMemory, NoCommand, LoadFault, SaveFault, WriteFault, BadType, BadIds, BadExpression, Refused}
 
--- A blob's refusal as `recode` answers it.
+-- A blob's refusal as `recode` returns it.
 abbrev pub wire_error : BlobRefusal → WireError
 wire_error refusal.TooShort = wire.TooShort
 wire_error refusal.BadTable = wire.BadTable

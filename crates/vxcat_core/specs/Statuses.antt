@@ -15,7 +15,7 @@ use Rattle.vxcat_core.specs.declared.status.BlobRefusal.TheVariants as refusal
 use Rattle.vxcat_core.specs.declared.status.Status.{Status}
 use Rattle.vxcat_core.specs.declared.status.Status.TheVariants.{OutOfMemory, LoadFault, SaveFault, WriteFault, BadType, BadIds, BadExpression, Refused}
 
--- Allocation failure is one status, wherever it was met; a load that failed is a fault of loading.
+-- Allocation failure is one status, at any step; a load that failed is a fault of loading.
 abbrev pub load_status : StoreError → Status
 load_status store_error.OutOfMemory = OutOfMemory
 load_status store_error.Failed = LoadFault
@@ -30,7 +30,7 @@ abbrev pub print_status : PrintError → Status
 print_status print_error.OutOfMemory = OutOfMemory
 print_status print_error.Failed = WriteFault
 
--- Each refusal of a type file, but for allocation failure, is one of a bad type.
+-- Each refusal of a type file, apart from allocation failure, is one of a bad type.
 abbrev pub type_status : TypeWireError → Status
 type_status type_error.OutOfMemory = OutOfMemory
 type_status type_error.BadTable = BadType
@@ -47,7 +47,7 @@ abbrev pub id_status : IdFileError → Status
 id_status id_error.OutOfMemory = OutOfMemory
 id_status id_error.BadText = BadIds
 
--- Each refusal of an expression file, but for allocation failure, is one of a bad expression.
+-- Each refusal of an expression file, apart from allocation failure, is one of a bad expression.
 abbrev pub expr_status : FnWireError → Status
 expr_status fn_error.OutOfMemory = OutOfMemory
 expr_status fn_error.BadMessage = BadExpression
@@ -59,7 +59,7 @@ expr_status fn_error.IdMismatch = BadExpression
 expr_status fn_error.NotSerializable = BadExpression
 expr_status fn_error.PluginRefused = BadExpression
 
--- A blob's refusal, but for allocation failure, is the status itself.
+-- A blob's refusal, apart from allocation failure, is the status itself.
 abbrev pub blob_status : WireError → Status
 blob_status wire.OutOfMemory = OutOfMemory
 blob_status wire.TooShort = Refused refusal.TooShort

@@ -11,15 +11,15 @@ pub record StoreState : Type 0 where
   pub load_faults : ℕ
   pub save_faults : ℕ
 
--- A count of faults has risen; one that stands at 2^64 - 1 cannot count further, and counts as risen.
+-- A count of faults has risen; a count of 2^64 - 1 cannot rise further, and counts as risen.
 abbrev pub HasRisen : ℕ → ℕ → Type 0
 HasRisen before after = min (before + 1) (2 ^ 64 - 1) ≤ after
 
--- As far as the store tells, these bytes stand at the name.
+-- These bytes stand at the name, as far as the store tells.
 abbrev pub Stands : StoreState → List ℕ → List ℕ → Type 0
 Stands store name bytes = IsTrue store.tells → store.file name ≡ Some bytes
 
--- Only these names were asked for in addition.
+-- Only these names were asked for since.
 abbrev pub AskedOnly : List (List ℕ) → List (List ℕ) → List (List ℕ) → Type 0
 AskedOnly names before after = (more : List (List ℕ)) × (after ≡ before ++ more) × AllByRecursion (λ name. Contains names name) more
 

@@ -2,10 +2,10 @@
 use Rattle.std.specs.Prelude.{◌≡◌, ℕ, Option, List, ◌++◌}
 use Rattle.std.specs.Io.KnownBytes.{Appends}
 
--- A front is a prefix of a text where the text is the front and something after it.
+-- A list is a prefix of a text where the text is that list and something after it.
 abbrev pub IsPrefixOf : List ℕ → List ℕ → Type 0
 IsPrefixOf front text = (rest : List ℕ) × (front ++ rest ≡ text)
 
--- Some prefix of the text was written, maybe none of it or the whole.
+-- Some prefix of the text was written, possibly none of it or all.
 abbrev pub AppendsPrefix : Option (List ℕ) → Option (List ℕ) → List ℕ → Type 0
 AppendsPrefix before after text = (front : List ℕ) × IsPrefixOf front text × Appends before after front

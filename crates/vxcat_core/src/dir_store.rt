@@ -11,16 +11,16 @@ use std::rt::Files;
 use vx_buffer::{ByteBuffer, ByteBuffers};
 use vx_types::{Blob, Name};
 
-// How many bytes one read asks for, and how many bytes of small buffers are gathered before they are written.
+// The most bytes that one read asks for, and the most bytes of small buffers that are gathered before they are written.
 const PIECE: usize = 1 << 16;
 
-// After as many reads, each of which gave at least one byte, a file counts as one without end.
+// After this many reads, each of at least one byte, a file counts as one without end, which is a fault.
 const MAX_READS: u64 = 1 << 32;
 
 /// The real files, by their paths from the folder that the program runs in.
 ///
-/// It tells nothing of what they hold, since no contract can. Each error of the system is a fault,
-/// an interrupted read or write too; so are a missing file, a folder, and a file without end.
+/// The store tells nothing of what the files hold, since no contract can. Each error of the system is a fault, an
+/// interrupted read or write too; so are a missing file, a folder, and a file without end.
 #[derive(Drop)]
 pub struct DirStore<'a, R: Files> {
     files: &'a R,
@@ -30,7 +30,7 @@ pub struct DirStore<'a, R: Files> {
 }
 
 impl<'a, R: Files> DirStore<'a, R> {
-    /// A store that has been asked for nothing.
+    /// A store that no name was asked of. It takes no memory.
     pub fn new(alloc: Global, files: &'a R) -> DirStore<'a, R>
         ensures { (⟦<DirStore<'a, R> as Store>⟧.state result).asked ≡ [] }
     {
@@ -57,7 +57,7 @@ impl<'a, R: Files> DirStore<'a, R> {
     }
 }
 
-// How many bytes a file says that it has: none where it does not say.
+// The length that a file reports, in bytes: 0 where it reports none.
 fn told_size<F: OpenFile>(file: &F) -> u64 {
     match file.metadata() {
         Ok(metadata) => metadata.len(),
@@ -65,7 +65,8 @@ fn told_size<F: OpenFile>(file: &F) -> u64 {
     }
 }
 
-// Room for so many bytes and one more, by which the end is found; none where there is no memory for them at once.
+// Room for `size` bytes and one more, by which the end is found; none where that memory cannot be allocated at once.
+// The reported length is only a hint.
 fn room_for(alloc: Global, size: u64) -> Vec<u8> {
     match Vec::with_capacity(alloc, (size as usize).saturating_add(1)) {
         Ok(room) => room,
@@ -73,8 +74,8 @@ fn room_for(alloc: Global, size: u64) -> Vec<u8> {
     }
 }
 
-// How many bytes the next read asks for where so many were read: what is left of those that the file says it has, and one more,
-// by which its end is found; a piece at most. A file that has more than it says is read on by whole pieces.
+// The number of bytes that the next read asks for, after `end` bytes: what is left of the reported length, and one
+// more, by which its end is found; at most `PIECE`. A file that is longer than it reports is read on in whole pieces.
 fn next_piece(size: u64, end: usize) -> usize
     ensures { result ≤ PIECE }
 {
@@ -84,7 +85,7 @@ fn next_piece(size: u64, end: usize) -> usize
     }
 }
 
-// The file's bytes, read into the memory that is handed on.
+// The file's bytes, read straight into the memory that is returned.
 fn read_all<F: Read + OpenFile>(alloc: Global, file: &mut F) -> Result<Vec<u8>, StoreError> {
     let size = told_size(file);
     let mut bytes = room_for(alloc, size);
@@ -136,7 +137,7 @@ fn save_file<R: Files>(files: &R, name: &Name, bytes: &[u8]) -> Result<(), Store
     flush(&mut file)
 }
 
-// Gathers a small piece after others, or writes them and the piece where it has no room among them.
+// Gathers a small piece after others; where there is no room for it, writes them and the piece.
 fn gather<F: Write>(file: &mut F, gathered: &mut Vec<u8>, piece: &[u8]) -> Result<(), StoreError> {
     let room = PIECE.saturating_sub(gathered.len());
     if piece.len() <= room && gathered.extend_from_slice(piece).is_ok() {
@@ -147,7 +148,7 @@ fn gather<F: Write>(file: &mut F, gathered: &mut Vec<u8>, piece: &[u8]) -> Resul
     write_all(file, piece)
 }
 
-// Writes the buffers, one after the other, as the whole of a file; small ones go out together.
+// Writes the buffers, one after the other, as the whole of a file; small ones are written together.
 fn save_pieces<R: Files>(
     alloc: Global,
     files: &R,

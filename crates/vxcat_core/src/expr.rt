@@ -1,4 +1,4 @@
-//! The command `expr`: it loads a file, reads an expression of it, and prints the expression.
+//! The command `expr`: it loads a file, reads an expression from it, and prints the expression.
 
 ghost use Rattle.std.specs.Prelude.{◌≡◌, ℕ, List, IfOk, IfErr, IfSome, IfNone, string_bytes};
 ghost use Rattle.vx_fn_wire.specs.Expr.{Expr};
@@ -14,7 +14,7 @@ use std::alloc::{AllocError, Global};
 use vx_fn_wire::{AggregateFnSession, Expression, FnSession, ScalarFnSession};
 use vx_types::{Blob, Name};
 
-/// The file that the words name where they are `expr FILE`.
+/// The file in words of the form `expr FILE`; `None` for other words.
 pub fn parse_expr<'a>(words: &'a [Name]) -> Option<&'a Name>
     ensures invoked { IfSome result (λ file. InvokesExpr words.now file.now) }
     ensures none { IfNone result ((file : List ℕ) → ¬ (InvokesExpr words.now file)) }
@@ -62,7 +62,7 @@ fn expression_lines(alloc: Global, bytes: &Blob) -> Result<String, Status>
         Ok(expression) => expression,
         Err(error) => return Err(Status::of_expr(error)),
     };
-    // What was read has at most 100 levels and options that can be written, so that memory alone can be wanting.
+    // What was read has at most 100 levels and options that can be written, so the only refusal left is `OutOfMemory`.
     let written = match expression.to_proto_bytes(alloc) {
         Ok(written) => written,
         Err(error) => return Err(Status::of_expr(error)),

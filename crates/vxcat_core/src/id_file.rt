@@ -8,16 +8,16 @@ use std::alloc::{AllocError, Global};
 use thiserror::Error;
 use vx_types::{Id, Ids};
 
-/// How many lines an id file may have.
+/// The greatest number of lines of an id file: nodes name identifiers by a u16.
 pub const MAX_LINES: usize = 65_536;
 
 /// Why bytes are not read as an id file.
 #[derive(Clone, Copy, Debug, PartialEq, Eq, Error)]
 pub enum IdFileError {
-    /// Memory was wanted and not to be had.
+    /// An allocation failed.
     #[error("out of memory")]
     OutOfMemory,
-    /// The bytes are no UTF-8, or a line is empty, or there are more than 65,536 lines.
+    /// The bytes are not UTF-8, or a line is empty, or there are more than 65,536 lines.
     #[error("no text of identifiers, one on each line")]
     BadText,
 }
@@ -78,7 +78,7 @@ fn push_line(alloc: Global, ids: &mut Ids, line: &str) -> Result<(), IdFileError
     ids.push(id).map_err(|_| IdFileError::OutOfMemory)
 }
 
-/// The text of identifiers: each on a line, which a line feed ends.
+/// The text of identifiers: each on a line that ends with a line feed.
 ///
 /// # Errors
 /// Allocation failure.

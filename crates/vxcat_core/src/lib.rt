@@ -1,4 +1,4 @@
-//! The program over a store of files and a sink for its text, which the caller hands in.
+//! The program over a store of files and a sink for its text, both of which the caller gives.
 #![tactic(auto)]
 
 mod dir_store;

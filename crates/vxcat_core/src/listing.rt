@@ -15,7 +15,7 @@ use crate::sink::Sink;
 use std::alloc::{AllocError, Global};
 use vx_arrays::{Array, ArrayError};
 
-/// How many cells a row may have whose value is printed.
+/// The greatest number of cells of a row whose value is printed.
 pub const MAX_CELLS: u64 = 10_000;
 
 /// Prints the listing of an array: a line for each node, and one for each of the first rows.
@@ -39,7 +39,7 @@ pub fn print_listing<O: Sink>(
     print_rows(alloc, array, rows, out)
 }
 
-// Appends the lines of an array's nodes: they are printed at once, since there may be many of them.
+// Appends the lines of an array's nodes. They are printed by one write, since there may be many of them.
 #[tactic(auto, using(vx_trees::proofs::Roses::roses))]
 fn push_nodes(
     alloc: Global,
@@ -82,7 +82,7 @@ fn lengths_text(alloc: Global, array: &Array) -> Result<String, AllocError>
     Ok(text)
 }
 
-// Appends the length of buffer i, after a comma and a space but for the first.
+// Appends the length of buffer `i`, after a comma and a space unless it is the first.
 fn push_length(text: &mut String, i: usize, len: usize) -> Result<(), AllocError>
     ensures first { i ≡ 0 → OnOk result (string_bytes text.new ≡ string_bytes text.old ++ decimal len) }
     ensures further { 0 < i → OnOk result (string_bytes text.new ≡ string_bytes text.old ++ (codes ", " ++ decimal len)) }

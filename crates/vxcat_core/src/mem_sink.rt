@@ -5,7 +5,7 @@ ghost use Rattle.std.specs.Prelude.{◌≡◌, ◌<◌, [], Some};
 use crate::sink::{Sink, SinkError};
 use std::alloc::Global;
 
-/// Text in memory, for tests. One write of it may fail, and a write may take only few bytes.
+/// Text in memory, for tests. One write of it may fail, and a write may take only a few bytes.
 #[derive(Drop)]
 pub struct MemSink {
     text: Vec<u8>,
@@ -17,14 +17,14 @@ pub struct MemSink {
 }
 
 impl MemSink {
-    /// Every write takes its whole piece.
+    /// A sink of which every write takes its whole piece.
     pub fn new(alloc: Global) -> MemSink
         ensures { ⟦<MemSink as Sink>⟧.state result ≡ record { written = Some []; faults = 0 } }
     {
         MemSink::failing(alloc, 0)
     }
 
-    /// The write of this number, counted from 1, fails, and no other.
+    /// A sink of which the write of this number, counted from 1, fails, and no other.
     pub fn failing(alloc: Global, number: u64) -> MemSink
         ensures { ⟦<MemSink as Sink>⟧.state result ≡ record { written = Some []; faults = 0 } }
     {
@@ -37,7 +37,7 @@ impl MemSink {
         }
     }
 
-    /// The same, and a write takes at most this number of bytes.
+    /// The same sink, of which a write takes at most `most` bytes.
     pub fn taking(self, most: usize) -> MemSink
         requires { 0 < most }
         ensures { ⟦<MemSink as Sink>⟧.state result ≡ ⟦<MemSink as Sink>⟧.state self }
@@ -66,7 +66,7 @@ impl MemSink {
     }
 }
 
-/// A write for which memory is wanting is a fault.
+/// A write whose memory cannot be allocated is a fault.
 impl Sink for MemSink {
     ghost use Rattle.std.specs.Prelude.{Some};
 

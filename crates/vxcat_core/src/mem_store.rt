@@ -21,7 +21,7 @@ pub struct MemStore {
 }
 
 impl MemStore {
-    /// No files, and no call fails.
+    /// A store without files, of which no call fails.
     pub fn new(alloc: Global) -> MemStore
         ensures tells { IsTrue (⟦<MemStore as Store>⟧.state result).tells }
         ensures files { (name : List ℕ) → (⟦<MemStore as Store>⟧.state result).file name ≡ None }
@@ -39,10 +39,10 @@ impl MemStore {
         }
     }
 
-    /// Lets the call of this number fail, counted from 1 over loads and saves.
+    /// Makes the call of this number fail, counted from 1 over loads and saves.
     ///
     /// # Errors
-    /// `OutOfMemory`, and no other.
+    /// `OutOfMemory` alone.
     pub fn fail_call(&mut self, number: u64) -> Result<(), StoreError>
         ensures unchanged { ⟦<MemStore as Store>⟧.state self.new ≡ ⟦<MemStore as Store>⟧.state self.old }
         ensures err { IsOkUnless result StoreError.OutOfMemory }
@@ -51,10 +51,10 @@ impl MemStore {
         Ok(())
     }
 
-    /// Puts a file there. It counts as no call, and changes nothing where it is refused.
+    /// Puts a file at a name. It counts as no call, and a refusal changes nothing.
     ///
     /// # Errors
-    /// `OutOfMemory`, and no other.
+    /// `OutOfMemory` alone.
     #[tactic(auto, using(std::proofs::lemmas::Map::Text::text_keys))]
     pub fn insert(&mut self, alloc: Global, name: &str, bytes: &[u8]) -> Result<(), StoreError>
         ensures ok { OnOk result ((⟦<MemStore as Store>⟧.state self.new).file name.now ≡ Some bytes.now) }
@@ -69,7 +69,7 @@ impl MemStore {
         Ok(())
     }
 
-    /// What stands at a name. It counts as no call.
+    /// The bytes at a name. It counts as no call.
     pub fn get(&self, name: &str) -> Option<&[u8]>
         ensures { option_copied result ≡ (⟦<MemStore as Store>⟧.state self.now).file name.now }
     {
@@ -79,7 +79,7 @@ impl MemStore {
         }
     }
 
-    // Counts a call, and says whether it fails.
+    // Counts a call, and returns whether it fails.
     fn next_call_fails(&mut self) -> bool
         ensures { self.new ≡ record self.old { calls = self.new.calls } }
     {

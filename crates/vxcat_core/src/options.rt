@@ -7,17 +7,17 @@ ghost use Rattle.vxcat_core.specs.GivenOptions.{Given, Gives, given_in, none_giv
 use crate::numbers::decimal_number;
 use vx_types::Name;
 
-/// How many rows a listing may have.
+/// The greatest number of rows of a listing.
 pub const MAX_ROWS: u64 = 1000;
 
 /// An option after the words of a command.
 #[derive(Clone, Copy)]
 pub enum Choice<'a> {
-    /// `--pad OFFSET`: the blob is written with pads, as at this position.
+    /// `--pad OFFSET`: the blob is written with pads, as if it stood at this position.
     Pad(u64),
-    /// `--rows N`: the listing has so many rows.
+    /// `--rows N`: the listing has at most this many rows.
     Rows(u64),
-    /// `--allow FILE`: the new blob may have the identifiers of this file alone.
+    /// `--allow FILE`: only the identifiers of this file are allowed in the new blob.
     Allow(&'a Name),
     /// `--unknown`: unknown encodings and unknown extensions are allowed.
     Unknown,
@@ -27,7 +27,7 @@ pub enum Choice<'a> {
     Revised,
 }
 
-/// The options of a command, no two of a kind.
+/// The options of a command, at most one of each kind.
 #[derive(Clone, Copy)]
 pub struct Options<'a> {
     pub pad: Option<u64>,
@@ -53,7 +53,7 @@ impl<'a> Options<'a> {
         }
     }
 
-    /// The options with one more; None where one of its kind is there already.
+    /// The options with one more; `None` where one of its kind is there already.
     pub fn with(self, choice: Choice<'a>) -> Option<Options<'a>>
         ensures { option_map given_in result ≡ with_setting (given_in self.entry) (setting_of choice.entry) }
     {
@@ -84,7 +84,7 @@ impl<'a> Options<'a> {
     }
 }
 
-/// The option at the front of the words, and the words after it.
+/// The option at the front of the words, and the words after it; `None` where none stands there.
 pub fn next_choice<'a>(words: &'a [Name]) -> Option<(Choice<'a>, &'a [Name])>
     ensures spelled { IfSome result (λ found. words.now ≡ setting_words (setting_of found.0) ++ found.1.now) }
     ensures in_range { IfSome result (λ found. IsInRange (setting_of found.0)) }
@@ -118,7 +118,7 @@ pub fn next_choice<'a>(words: &'a [Name]) -> Option<(Choice<'a>, &'a [Name])>
     Some((Choice::Rows(number), rest))
 }
 
-/// The options that the words give, beside those that were given before.
+/// The options that the words are, added to those before; `None` where the words are no options or two are of one kind.
 pub fn parse_options<'a>(words: &'a [Name], before: Options<'a>) -> Option<Options<'a>>
     ensures given { IfSome result (λ options. Gives (given_in before.entry) words.now (given_in options)) }
     ensures none { IfNone result ((after : Given) → ¬ (Gives (given_in before.entry) words.now after)) }

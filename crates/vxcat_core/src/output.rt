@@ -1,11 +1,11 @@
-//! A writer, as a sink.
+//! A writer as a sink.
 
 ghost use Rattle.std.specs.Prelude.{◌≡◌};
 
 use crate::sink::{Sink, SinkError};
 use std::io::Write;
 
-/// A writer as a sink, as standard output. It tells what the writer tells.
+/// A writer as a sink, such as standard output. The sink tells what the writer tells.
 ///
 /// A write that takes nothing, or that is interrupted, is a fault.
 #[derive(Drop)]

@@ -13,7 +13,7 @@ use thiserror::Error;
 /// Why a text was not wholly printed.
 #[derive(Clone, Copy, Debug, PartialEq, Eq, Error)]
 pub enum PrintError {
-    /// Memory was wanted for the text and not to be had.
+    /// An allocation for the text failed.
     #[error("out of memory")]
     OutOfMemory,
     /// A write failed, after none or some of the text.
@@ -37,7 +37,7 @@ impl From<SinkError> for PrintError {
     }
 }
 
-/// Writes a whole text, in as many writes as the sink asks for.
+/// Writes a whole text, in as many writes as the sink needs.
 ///
 /// # Errors
 /// `Failed` where a write failed; a prefix of the text is then written.

@@ -19,7 +19,7 @@ use steps::{load_inputs, recode_inputs, save_outputs};
 pub use steps::{Outputs, recode_buffer, serialize_options};
 pub use words::{RecodeWords, parse_recode};
 
-// How many rows a listing has without `--rows`.
+// The number of rows of a listing without `--rows`.
 const DEFAULT_ROWS: u64 = 10;
 
 /// Runs the command that the words name.
@@ -49,7 +49,7 @@ pub fn run_recode<S: Store, O: Sink>(
     }
 }
 
-// How many rows are listed.
+// The number of rows that are listed.
 fn shown_rows(options: Options<'_>) -> usize
     ensures { result ≡ (settings_by (given_in options.entry)).rows }
 {

@@ -14,10 +14,10 @@ use vx_arrays::RowValue;
 use vx_scalars::{DecimalValue, Scalar, bare_dtype};
 use vx_types::{DType, MapDType, PValue};
 
-/// The text of a row's value, of a row of this type: `null`, `true`, `false`, an integer in decimal, a float's bits as `0x`
-/// and hex digits, a decimal's unscaled integer, a text or bytes as hex digits after an `x`, or `?` where nothing is known
-/// of the row; and of values with values in them `[a, b]` for lists, `{a, b}` for structures, `{k=>v, k=>v}` for maps, `#5(a)`
-/// for unions and `v(a)` for variants.
+/// The text of a row's value, for a row of this type: `null`, `true`, `false`, an integer in decimal, a float's bits as
+/// `0x` and hex digits, a decimal's unscaled integer, a text or bytes as hex digits after an `x`, or `?` where nothing
+/// is known of the row; and for values with values in them `[a, b]` for lists, `{a, b}` for structures, `{k=>v, k=>v}`
+/// for maps, `#5(a)` for unions and `v(a)` for variants. The texts are this project's own.
 ///
 /// # Errors
 /// Allocation failure.
@@ -62,7 +62,7 @@ fn tuple_text(alloc: Global, values: &[RowValue], dtype: &DType) -> Result<Strin
     }
 }
 
-// The text of a union, by its type: its tag, and the text of the row of the member that this names.
+// The text of a union, by its type: its tag, and the text of the row of the member with this tag.
 #[cycle(text)]
 fn union_text(alloc: Global, tag: u8, row: &RowValue, dtype: &DType) -> Result<String, AllocError>
     ensures { IfOk result (λ text. string_bytes text ≡ value_text (node (union tag) (more (plain_value row.now) end)) (typ dtype.now)) }
@@ -76,7 +76,7 @@ fn union_text(alloc: Global, tag: u8, row: &RowValue, dtype: &DType) -> Result<S
     }
 }
 
-// The text of a variant: that of its value, by the type of this.
+// The text of a variant: that of its value, by the type of the value.
 #[cycle(text)]
 fn variant_text(alloc: Global, scalar: &Scalar) -> Result<String, AllocError>
     ensures { IfOk result (λ text. string_bytes text ≡ value_text (variant_of scalar.now.dtype scalar.now.value) scalar.now.dtype) }
@@ -86,7 +86,7 @@ fn variant_text(alloc: Global, scalar: &Scalar) -> Result<String, AllocError>
     format!(in alloc; "v({text})")
 }
 
-// The text of a row's value, which is let go.
+// The text of a row's value, which is dropped.
 #[cycle(text)]
 fn text_of(alloc: Global, value: RowValue, dtype: &DType) -> Result<String, AllocError>
     ensures { IfOk result (λ text. string_bytes text ≡ value_text (plain_value value) (typ dtype.now)) }
@@ -106,7 +106,7 @@ fn value_of(alloc: Global, scalar: &Scalar) -> Result<RowValue, AllocError>
     }
 }
 
-// The type of the member that a tag names, of a type that is stored as unions.
+// The type of the member with a tag, of a type that is stored as unions.
 fn member_type(tag: u8, dtype: &DType) -> Option<&DType>
     ensures { option_map (λ d. typ d.now) result ≡ member_under tag (bare (typ dtype.now)) }
 {
@@ -122,7 +122,7 @@ fn member_type(tag: u8, dtype: &DType) -> Option<&DType>
     }
 }
 
-// Of types that stand beside tags the one of a tag.
+// The type beside a tag, among types that stand beside tags.
 #[tactic(auto, using(crate::proofs::UnionTexts::naming))]
 fn named<'a>(tag: u8, ids: &[u8], dtypes: &'a [DType]) -> Option<&'a DType>
     ensures { option_map (λ d. typ d.now) result ≡ member tag ids.now (roses_of (typs dtypes.now)) }
@@ -135,7 +135,7 @@ fn named<'a>(tag: u8, ids: &[u8], dtypes: &'a [DType]) -> Option<&'a DType>
     None
 }
 
-// One text more, split from those before it.
+// Appends a text, after a comma and a space unless it is the first.
 fn add_text(texts: &mut String, text: &str, first: bool) -> Result<(), AllocError>
     ensures { OnOk result (string_bytes texts.new ≡ string_bytes texts.old ++ (if first then text.now else further_text text.now)) }
 {
@@ -146,7 +146,7 @@ fn add_text(texts: &mut String, text: &str, first: bool) -> Result<(), AllocErro
     texts.push_str(text)
 }
 
-// The texts of values of one type, split by commas.
+// The texts of values of one type, with a comma and a space between them.
 #[cycle(text)]
 fn texts_of_one(alloc: Global, values: &[RowValue], dtype: &DType) -> Result<String, AllocError>
     ensures { IfOk result (λ texts. string_bytes texts ≡ parted (each_text (roses_of (plain_values values.now)) (typ dtype.now))) }
@@ -159,7 +159,7 @@ fn texts_of_one(alloc: Global, values: &[RowValue], dtype: &DType) -> Result<Str
     Ok(texts)
 }
 
-// The texts of values, each by its type, split by commas.
+// The texts of values, each by its type, with a comma and a space between them.
 #[cycle(text)]
 fn texts_by(alloc: Global, values: &[RowValue], dtypes: &[DType]) -> Result<String, AllocError>
     ensures { IfOk result (λ texts. string_bytes texts ≡ parted (texts_by (roses_of (plain_values values.now)) (roses_of (typs dtypes.now)))) }
@@ -172,7 +172,7 @@ fn texts_by(alloc: Global, values: &[RowValue], dtypes: &[DType]) -> Result<Stri
     Ok(texts)
 }
 
-// The texts of a map's entries, split by commas.
+// The texts of a map's entries, with a comma and a space between them.
 #[cycle(text)]
 fn entry_texts(alloc: Global, values: &[RowValue], map: &MapDType) -> Result<String, AllocError>
     ensures { IfOk result (λ texts. string_bytes texts ≡ parted (entry_texts (roses_of (plain_values values.now)) map.now.key map.now.value)) }
@@ -222,7 +222,7 @@ fn number_text(alloc: Global, number: &PValue) -> Result<String, AllocError>
     }
 }
 
-// The widest of them as its bytes, from the highest.
+// A decimal's unscaled integer in decimal; of the widest kind its bytes as hex digits, from the highest.
 fn decimal_text(alloc: Global, decimal: &DecimalValue) -> Result<String, AllocError>
     ensures { IfOk result (λ text. string_bytes text ≡ decimal_text (decimal_of decimal.now)) }
 {

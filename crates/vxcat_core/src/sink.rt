@@ -7,7 +7,7 @@ ghost use Rattle.vxcat_core.specs.SinkState.{SinkState};
 
 use thiserror::Error;
 
-/// Why a piece of text was not taken.
+/// Why a piece of text was not written.
 #[derive(Clone, Copy, Debug, PartialEq, Eq, Error)]
 pub enum SinkError {
     /// Nothing of the piece could be written.
@@ -15,18 +15,18 @@ pub enum SinkError {
     Failed,
 }
 
-/// Where the program writes its text.
+/// The output to which the program writes its text.
 ///
-/// A sink may tell the bytes that were written to it, and what it tells stays told. Its count of
-/// faults never falls.
+/// A sink may tell the bytes that were written to it, and then tells them from then on. Its count of faults never
+/// decreases.
 pub trait Sink {
     /// The bytes written so far, where the sink tells them, and how many writes failed.
     ghost state: { Self → SinkState };
 
-    /// Appends some first bytes of the piece, at least one, and gives their number.
+    /// Appends a prefix of the piece of at least one byte, and returns its length.
     ///
     /// # Errors
-    /// `Failed` where nothing of the piece could be written, and then the count of faults rose.
+    /// `Failed` where nothing of the piece could be written; the count of faults has risen then.
     fn write(&mut self, piece: &[u8]) -> Result<usize, SinkError>
         requires { 0 < length piece.now }
         ensures some { IfOk result (λ taken. 0 < taken) }

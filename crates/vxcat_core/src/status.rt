@@ -11,7 +11,7 @@ use vx_fn_wire::FnWireError;
 use vx_serde::WireError;
 use vx_type_wire::TypeWireError;
 
-/// Why a blob is not recoded, but for allocation failure: the refusals of `WireError` beside that.
+/// Why a blob is not recoded, apart from allocation failure: the other refusals of `WireError`.
 #[derive(Clone, Copy, Debug, PartialEq, Eq)]
 pub enum BlobRefusal {
     TooShort,
@@ -36,7 +36,7 @@ pub enum BlobRefusal {
 }
 
 impl BlobRefusal {
-    /// The refusal as `recode` answers it.
+    /// The refusal as a `WireError`.
     pub fn wire_error(self) -> WireError
         ensures { result ≡ wire_error self }
     {
@@ -67,30 +67,30 @@ impl BlobRefusal {
 /// How a run of the program ends.
 #[derive(Clone, Copy, Debug, PartialEq, Eq)]
 pub enum Status {
-    /// The command's outputs are saved and its text is printed.
+    /// The command's outputs are saved and its text is printed: 0.
     Done,
-    /// Memory was wanted and not to be had, at whatever step.
+    /// An allocation failed, at any step: 1.
     OutOfMemory,
-    /// The words spell no command.
+    /// The words are no command: 2.
     NoCommand,
-    /// An input could not be loaded.
+    /// An input could not be loaded: 3.
     LoadFault,
-    /// An output could not be saved.
+    /// An output could not be saved: 4.
     SaveFault,
-    /// The command's text could not be wholly printed; its outputs are saved.
+    /// The command's text could not be wholly printed; its outputs are saved: 5.
     WriteFault,
-    /// The type file shows no type within the limits, or one with an extension that is not allowed.
+    /// The type file shows no type within the limits, or one with an extension that is not allowed: 6.
     BadType,
-    /// The id file is no text of identifiers.
+    /// The id file is no text of identifiers: 7.
     BadIds,
-    /// The expression file is read as no expression.
+    /// The expression file is read as no expression: 8.
     BadExpression,
-    /// The blob cannot be read or written again, for this cause.
+    /// The blob cannot be read or written again: the number of this cause.
     Refused(BlobRefusal),
 }
 
 impl Status {
-    /// The number with which the process ends.
+    /// The exit status of the process.
     pub fn number(self) -> u8
         ensures { result ≡ status_number self }
     {

@@ -13,7 +13,7 @@ use vx_types::{Blob, Name};
 /// Why a file was not loaded or not saved.
 #[derive(Clone, Copy, Debug, PartialEq, Eq, Error)]
 pub enum StoreError {
-    /// Memory was wanted and not to be had.
+    /// An allocation failed.
     #[error("out of memory")]
     OutOfMemory,
     /// The file is not there, or a read or write of it failed.
@@ -37,19 +37,19 @@ impl<T: Drop> From<AllocFailed<T>> for StoreError {
     }
 }
 
-/// Files under names: where the program reads its inputs, and where it saves its outputs.
+/// Files under names: from a store the program reads its inputs, and there it saves its outputs.
 ///
-/// A store may tell what stands at its names, as one in memory does, or tell nothing, as one over
-/// real files must. What it tells stays told. Its two counts of faults never fall.
+/// A store may tell the bytes at its names, as one in memory does, or tell nothing, as one over real files must.
+/// Whether it tells them never changes. Its two counts of faults never decrease.
 pub trait Store {
-    /// What the store tells of its names, which of them `load` was given so far, and how many loads
-    /// and saves failed.
+    /// Whether the store tells its files, what it tells of its names, which of them `load` was given so far, and how
+    /// many loads and saves failed.
     ghost state: { Self → StoreState };
 
-    /// The bytes that stand at the name.
+    /// The bytes at the name.
     ///
     /// # Errors
-    /// `OutOfMemory`; `Failed` where they could not be read, and then the count of load faults rose.
+    /// `OutOfMemory`; `Failed` where they could not be read, and then the count of load faults has risen.
     fn load(&mut self, alloc: Global, name: &Name) -> Result<Blob, StoreError>
         ensures bytes { IsTrue (state self.old).tells
             → IfOk result (λ bytes. (state self.old).file name.now ≡ Some bytes) }
@@ -67,10 +67,10 @@ pub trait Store {
         ensures fault { IsErrOf result store_error.Failed
             → HasRisen (state self.old).load_faults (state self.new).load_faults };
 
-    /// Puts the bytes at the name. After a refusal it is not said what stands at that name.
+    /// Puts the bytes at the name. After a refusal nothing is known of what stands at that name.
     ///
     /// # Errors
-    /// `OutOfMemory`; `Failed` where they could not be written, and then the count of save faults rose.
+    /// `OutOfMemory`; `Failed` where they could not be written, and then the count of save faults has risen.
     fn save(&mut self, alloc: Global, name: &Name, bytes: &[u8]) -> Result<(), StoreError>
         ensures saved { IsTrue (state self.old).tells
             → OnOk result ((state self.new).file name.now ≡ Some bytes.now) }
@@ -84,8 +84,8 @@ pub trait Store {
         ensures fault { IsErrOf result store_error.Failed
             → HasRisen (state self.old).save_faults (state self.new).save_faults };
 
-    /// Puts the bytes of these buffers, one after the other, at the name, as [`save`](Store::save) of
-    /// them joined. A store that can write them in pieces needs no memory for the whole.
+    /// Puts the bytes of these buffers, one after the other, at the name, as [`save`](Store::save) does with the bytes
+    /// joined. A store that can write them in pieces needs no memory for the whole.
     ///
     /// # Errors
     /// Those of [`save`](Store::save).

@@ -26,8 +26,8 @@ use vx_serde::ArrayExt;
 use vx_type_wire::{DTypeExt, ExtSession};
 use vx_types::Ids;
 
-/// What the command makes: the bytes of the table's type, the buffers of its blob with their identifiers, and the line
-/// that the table is told by.
+/// The outputs of the command: the bytes of the table's type, the buffers of its blob with their identifiers, and the
+/// line of the table.
 #[derive(Drop)]
 pub struct MadeOutputs {
     pub type_bytes: FlatBuffer,
@@ -43,7 +43,7 @@ pub struct WrittenTable {
     pub ids: Ids,
 }
 
-/// Generates the table of this seed and so many rows, and writes it. Only memory can be wanting.
+/// Makes the table of this seed and number of rows, and writes it. The only status that is returned is `OutOfMemory`.
 pub fn make_outputs(alloc: Global, seed: u64, rows: usize) -> Result<MadeOutputs, Status>
     requires { rows ≤ 1000000 }
     ensures made { IfOk result (AreOutputsOf (made seed rows)) }
@@ -93,7 +93,7 @@ fn write_type(alloc: Global, array: &Array) -> Result<FlatBuffer, Status>
     }
 }
 
-// A table's blob, which was read and written again, with the encodings that are shipped.
+// A table's blob, read and written again with the shipped encodings, so that `make` saves what `recode` would.
 fn write_again(alloc: Global, array: &Array) -> Result<Outputs, Status>
     requires { IsTable array.now }
     ensures again { IfOk result (IsWrittenAgain array.now) }
@@ -106,7 +106,7 @@ fn write_again(alloc: Global, array: &Array) -> Result<Outputs, Status>
     write_under(alloc, array, &session)
 }
 
-// The same under a session: that of these encodings, without readers of extensions.
+// The same under a session: that of the shipped encodings, without readers of extensions.
 fn write_under(alloc: Global, array: &Array, session: &VortexSession) -> Result<Outputs, Status>
     requires table { IsTable array.now }
     requires session { session_meaning (λ b. means (b.vtable, b.value)) (λ b. accepted (b.vtable, b.value)) session.now ≡ make_session }
@@ -144,7 +144,7 @@ fn write_once(alloc: Global, array: &Array, session: &VortexSession) -> Result<W
     }
 }
 
-// The buffers as one, and the identifiers of their context.
+// The buffers joined to one, and the identifiers of their context.
 fn join_written(
     alloc: Global,
     buffers: &ByteBuffers,

@@ -7,10 +7,10 @@ ghost use Rattle.vxcat_core.specs.MakeViews.{make_line};
 use crate::numbers::decimal_number;
 use vx_types::Name;
 
-/// How many rows a table may have.
+/// The greatest number of rows of a table.
 pub const MAX_ROWS: u64 = 1_000_000;
 
-/// The words after `make`: the seed, how many rows the table has, and the files that are saved.
+/// The words after `make`: the seed, the number of rows, and the files that are saved.
 #[derive(Drop)]
 pub struct MakeWords<'a> {
     pub seed: u64,
@@ -20,7 +20,8 @@ pub struct MakeWords<'a> {
     pub id_file: &'a Name,
 }
 
-/// What the words name where they are `make SEED ROWS TYPE OUT IDS` and no two names of outputs are the same.
+/// The parts of words of the form `make SEED ROWS TYPE OUT IDS` in which no two names of outputs are the same; `None`
+/// for other words.
 pub fn parse_make<'a>(words: &'a [Name]) -> Option<MakeWords<'a>>
     ensures invoked { IfSome result (λ make. InvokesMake words.now (make_line make)) }
     ensures none { IfNone result ((line : Make) → ¬ (InvokesMake words.now line)) }

@@ -38,7 +38,7 @@ pub struct Inputs {
     pub allow_bytes: Option<Blob>,
 }
 
-/// What the command makes: the array that it lists, and the buffers of the new blob with its identifiers.
+/// The outputs of the command: the array that it lists, and the buffers of the new blob with its identifiers.
 #[derive(Drop)]
 pub struct Outputs {
     pub array: Array,
@@ -46,7 +46,7 @@ pub struct Outputs {
     pub ids: Ids,
 }
 
-/// Loads the type file, the blob, the id file and, where it is named, the file of allowed identifiers, in this order.
+/// Loads the type file, the blob, the id file and, where there is one, the file of allowed identifiers, in this order.
 pub fn load_inputs<S: Store>(
     alloc: Global,
     words: &RecodeWords,
@@ -82,7 +82,7 @@ pub fn load_inputs<S: Store>(
     }
 }
 
-// Loads a file, where one is named.
+// Loads a file, where a name is given.
 fn load_named<S: Store>(
     alloc: Global,
     name: Option<&Name>,
@@ -105,8 +105,8 @@ fn load_named<S: Store>(
     }
 }
 
-/// Judges the type file, then the id files, and recodes the blob, with the encodings that are shipped and without readers of
-/// extensions; primitives have two identifiers, and what is unknown is allowed, where the options say so.
+/// Reads the type file, then the id files, and recodes the blob, with the shipped encodings and without readers of
+/// extensions. The options say whether primitives have two identifiers, and whether what is unknown is allowed.
 pub fn recode_inputs(alloc: Global, words: &RecodeWords, loaded: Inputs) -> Result<Outputs, Status>
     ensures made { IfOk result (λ made. AreOutputs (line_of words.now) (loaded_of loaded) made) }
     ensures cause { IfErr result (λ status. RefusesInputs status (line_of words.now) (loaded_of loaded)) }
@@ -128,7 +128,7 @@ pub fn recode_inputs(alloc: Global, words: &RecodeWords, loaded: Inputs) -> Resu
     )
 }
 
-// The same by a session of the encodings that are shipped, beside no readers of extensions.
+// The same with a session of the shipped encodings, and no readers of extensions.
 fn recode_by(
     alloc: Global,
     words: &RecodeWords,
@@ -148,7 +148,7 @@ fn recode_by(
     recode_under(alloc, words, loaded, &session)
 }
 
-// The same under a session: that which the options ask for.
+// The same under a session: the one that the options ask for.
 fn recode_under(
     alloc: Global,
     words: &RecodeWords,
@@ -186,7 +186,7 @@ fn recode_under(
     )
 }
 
-// The type that a type file shows, as far as these readers know its extensions. The bytes are let go once it is read.
+// The type that a type file shows, as far as these readers know its extensions. The bytes are dropped once it is read.
 fn read_type_file(alloc: Global, bytes: Blob, readers: &ExtSession) -> Result<DType, Status>
     ensures read { let x = ext_meaning (λ b. accepted (b.vtable, b.value)) readers.now in
         IfOk result (λ d. IsRead (ShowsType bytes) x (typ d)) }
@@ -222,7 +222,7 @@ fn read_id_file(alloc: Global, bytes: &[u8]) -> Result<Ids, Status>
     }
 }
 
-// The context under which the new blob is written: an empty one, which allows the identifiers of the file, if there is one.
+// The context for the new blob: an empty one, which allows the identifiers of the file, or all where there is none.
 fn read_context(alloc: Global, allow_bytes: &Option<Blob>) -> Result<ArrayContext, Status>
     ensures read { IfOk result (λ context. (allowed : Option (List (List ℕ))) × ReadsAllowed allow_bytes.now allowed × (context ≡ context_of allowed)) }
     ensures cause { IfErr result (λ status. RefusesIdFile status (λ allowed. ReadsAllowed allow_bytes.now allowed)) }
@@ -283,7 +283,7 @@ fn recode_blob(
     }
 }
 
-/// Recodes a blob that stands in a buffer, under a session and a context.
+/// Recodes a blob in a buffer, under a session and a context.
 pub fn recode_buffer(
     alloc: Global,
     buffer: ByteBuffer,

@@ -20,8 +20,8 @@ pub struct RecodeWords<'a> {
     pub options: Options<'a>,
 }
 
-/// What the words name where they are `recode TYPE BLOB LEN IDS OUT OUTIDS` and options after these, and where the two
-/// names of outputs differ.
+/// The parts of words of the form `recode TYPE BLOB LEN IDS OUT OUTIDS`, with options after these, in which the two
+/// names of outputs differ; `None` for other words.
 pub fn parse_recode<'a>(words: &'a [Name]) -> Option<RecodeWords<'a>>
     ensures invoked { IfSome result (λ recode. InvokesRecode words.now (line_of recode)) }
     ensures none { IfNone result ((line : Recode) → ¬ (InvokesRecode words.now line)) }

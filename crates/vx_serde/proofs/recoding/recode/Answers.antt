@@ -31,7 +31,7 @@ returns-in_err-serialized-clause-cause g c =
     let asked = request c.args.blob c.args.dtype.now c.args.len c.args.read_ids.now c.args.ctx.now (session_meaning (λ b. (goal.ArrayPlugin-dyn g (b.vtable, b.value)).means b.value) (λ b. (goal.ExtPlugin-dyn g (b.vtable, b.value)).accepted b.value) c.args.session.now) c.args.options.now in
     rw (p.1, p.2) (caused_by_blob asked c.in_err-serialized.field-0.0 c.in_err-serialized.ensures.cause)
 
--- ---- its wire tree tells no array
+-- ---- its wire tree decodes to no array
 
 pub returns-in_err-array-clause-shipped : goal.returns-in_err-array-clause-shipped
 returns-in_err-array-clause-shipped g c = λ ok.

@@ -6,11 +6,11 @@ use Rattle.vx_serde.specs.contracts.taken.fill.{dyn-1-ghosts}
 use Rattle.vx_serde.specs.Taking.{root_arrays, AreTaken, AreWithinLevels}
 use Rattle.vx_serde.proofs.taken.+fill.Given as goal
 
--- each level has room for one less
+-- Each level has room for one less.
 abbrev pub decreases-fill : goal.decreases-fill
 decreases-fill g l = l.room
 
--- the nodes so far are those of the arrays so far
+-- The nodes so far are those of the arrays so far.
 abbrev pub invariant-loop-i : goal.invariant-loop-i
 invariant-loop-i g l = record {
   root : l.above.root ≡ l.initial.above.root;

@@ -17,7 +17,7 @@ use Rattle.vx_serialized.proofs.LawsOfAnswers.{ok_of}
 use Rattle.vx_serde.proofs.Taking.{taken_as_own, taken_whole, is_taken_whole, untaken_whole, without_blob}
 use Rattle.vx_serde.proofs.writing.write_array.Goals as goal
 
--- ---- whether primitives have two identifiers is not told
+-- ---- whether primitives have two identifiers is not known
 
 pub returns-in-Err-clause-kept : goal.returns-in-Err-clause-kept
 returns-in-Err-clause-kept g c = λ x u. kept-same _ c.args.ctx.now c.args.ctx.now refl

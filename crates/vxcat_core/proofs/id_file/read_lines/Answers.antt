@@ -4,7 +4,7 @@ use Rattle.vxcat_core.specs.IdFile.{id_text, HasLines, IsIdLine}
 use Rattle.vxcat_core.proofs.IdLines.{first_line_is, last_line_is, refused, refused_last, ends_without, push_line, id_text_push}
 use Rattle.vxcat_core.proofs.id_file.read_lines.Goals as goal
 
--- where a line ends, the text is the lines so far, that line and the rest
+-- Where a line ends, the text is the lines so far, that line and the rest.
 text_is : (text : List ℕ) (ids : List (List ℕ)) (rest line after : List ℕ) → text ≡ id_text ids ++ rest → rest ≡ line ++ 10 ∷ after → text ≡ id_text ids ++ (line ++ 10 ∷ after)
 text_is text ids rest line after split is = split ∙ ap (λ (l : List ℕ). id_text ids ++ l) is
 

@@ -34,7 +34,7 @@ decreases-entry_texts l = 4 * nodes_of (roses_of (plain_values l.values.now)) + 
 abbrev pub decreases-entry_text : goal.decreases-entry_text
 decreases-entry_text l = 4 * nodes (plain_value l.value.now) + 1
 
--- the texts so far are those of the first values
+-- The texts so far are those of the first values.
 abbrev pub invariant-texts_of_one-loop-i : goal.invariant-texts_of_one-loop-i
 invariant-texts_of_one-loop-i l = string_bytes l.texts ≡ parted (each_text (roses_of (plain_values (take l.i l.values))) (typ l.dtype))
 

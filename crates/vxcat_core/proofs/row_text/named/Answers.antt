@@ -1,4 +1,4 @@
--- A member whose tag is another one is not named.
+-- A member with another tag is not the one with this tag.
 use Rattle.std.proofs.Common.{◌<◌, length, min, arith}
 use Rattle.vxcat_core.proofs.UnionTexts.{named_next}
 use Rattle.vxcat_core.proofs.row_text.named.Goals as goal
