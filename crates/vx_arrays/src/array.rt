@@ -27,8 +27,8 @@ use std::alloc::Global;
 use std::marker::Model;
 use vx_buffer::BufferHandle;
 use vx_rows::{ArrayError, RowValue};
-use vx_scalars::{ScalarError, StatsSet};
-use vx_types::DType;
+use vx_scalars::StatsSet;
+use vx_types::{DType, TypeError};
 
 /// An array: a tree of nodes that is sound as a whole, each with its statistics.
 pub struct Array {
@@ -146,11 +146,11 @@ impl Array {
 
     /// Other statistics in place of those that were told, at the root alone. `BadScalar` exactly
     /// where one of them is no value of its type; the array then stays as it was.
-    pub fn set_all(&mut self, stats: StatsSet) -> Result<(), ScalarError>
+    pub fn set_all(&mut self, stats: StatsSet) -> Result<(), TypeError>
         ensures ok { OnOk result (self.new ≡ with_stats stats self.old) }
         ensures fits { OnOk result (FitStats (label self.old).dtype stats) }
         ensures unchanged { OnErr result (self.new ≡ self.old) }
-        ensures err { IfErr result (λ e. (e ≡ ScalarError.BadScalar) × (FitStats (label self.old).dtype stats → ⊥)) }
+        ensures err { IfErr result (λ e. (e ≡ TypeError.BadScalar) × (FitStats (label self.old).dtype stats → ⊥)) }
     {
         stats.validate(&self.dtype)?;
         self.stats = stats;

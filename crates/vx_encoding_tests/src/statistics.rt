@@ -3,18 +3,18 @@
 use std::alloc::Global;
 use vx_array_tests::parts::{Made, copy_of, numbers};
 use vx_arrays::{Array, ArrayError};
-use vx_scalars::{Precision, ScalarError, ScalarValue, Stat, StatsSet};
-use vx_types::{PType, PValue};
+use vx_scalars::{Precision, ScalarValue, Stat, StatsSet};
+use vx_types::{PType, PValue, TypeError};
 
 // A set in which a number is told of one statistic, exactly.
-fn set_of(alloc: Global, stat: Stat, number: PValue) -> Result<StatsSet, ScalarError> {
+fn set_of(alloc: Global, stat: Stat, number: PValue) -> Result<StatsSet, TypeError> {
     let mut set = StatsSet::new(alloc);
     set.set(stat, Precision::Exact(ScalarValue::Primitive(number)))?;
     Ok(set)
 }
 
 // Gives an array that set.
-fn tell(alloc: Global, array: &mut Array, stat: Stat, number: PValue) -> Result<(), ScalarError> {
+fn tell(alloc: Global, array: &mut Array, stat: Stat, number: PValue) -> Result<(), TypeError> {
     let set = set_of(alloc, stat, number)?;
     array.set_all(set)
 }
@@ -33,7 +33,7 @@ pub(crate) fn answered(
     made: Made,
     stat: Stat,
     number: PValue,
-    answer: Result<(), ScalarError>,
+    answer: Result<(), TypeError>,
 ) -> Made {
     let mut array = made?;
     if tell(alloc, &mut array, stat, number) == answer {
@@ -61,7 +61,7 @@ fn told_after(
     alloc: Global,
     stat: Stat,
     number: PValue,
-    answer: Result<(), ScalarError>,
+    answer: Result<(), TypeError>,
 ) -> Result<Option<PValue>, ArrayError> {
     told_of(answered(alloc, pair(alloc), stat, number, answer), stat)
 }
@@ -85,7 +85,7 @@ fn a_statistic_is_of_its_type(rt: HostRuntime) {
     for (stat, number, other) in &NUMBERS {
         let told = told_after(alloc, *stat, *number, Ok(()));
         assert!(rt; told == Ok(Some(*number)));
-        let refused = told_after(alloc, *stat, *other, Err(ScalarError::BadScalar));
+        let refused = told_after(alloc, *stat, *other, Err(TypeError::BadScalar));
         assert!(rt; refused == Ok(None));
     }
 }
@@ -93,7 +93,7 @@ fn a_statistic_is_of_its_type(rt: HostRuntime) {
 // Two numbers with a least value, after another least value was refused.
 fn least_told(alloc: Global) -> Made {
     let told = answered(alloc, pair(alloc), Stat::Min, PValue::U8(1), Ok(()));
-    let refused = Err(ScalarError::BadScalar);
+    let refused = Err(TypeError::BadScalar);
     answered(alloc, told, Stat::Min, PValue::U16(0), refused)
 }
 

@@ -1,11 +1,11 @@
--- What is said of the kinds of numbers.
+-- The kinds of numbers: widths, codes, and the kind of a number.
 use Rattle.std.specs.Prelude.{ℕ, Bool, true, false}
 use Rattle.vx_numbers.specs.declared.ptype.PType.{PType}
 use Rattle.vx_numbers.specs.declared.ptype.PType.TheVariants.{U8, U16, U32, U64, I8, I16, I32, I64, F16, F32, F64}
 use Rattle.vx_numbers.specs.declared.value.PValue.{PValue}
 use Rattle.vx_numbers.specs.declared.value.PValue.TheVariants.{U8 as u8, U16 as u16, U32 as u32, U64 as u64, I8 as i8, I16 as i16, I32 as i32, I64 as i64, F16 as f16, F32 as f32, F64 as f64}
 
--- A number takes an eighth as many bytes as its kind's name says bits.
+-- The width in bytes, an eighth of the bits that the kind's name gives.
 abbrev pub width_of : PType → ℕ
 width_of U8 = 1
 width_of U16 = 2
@@ -19,7 +19,7 @@ width_of F16 = 2
 width_of F32 = 4
 width_of F64 = 8
 
--- The integers are the kinds with and without sign, and not the floats.
+-- The integers, signed or not; the floats are none.
 abbrev pub is_integer : PType → Bool
 is_integer U8 = true
 is_integer U16 = true
@@ -33,8 +33,8 @@ is_integer F16 = false
 is_integer F32 = false
 is_integer F64 = false
 
--- Each kind has a number of its own in messages, from 0: first the integers
--- without sign by width, then those with sign, then the floats.
+-- The code of a kind in messages, from 0: the unsigned integers by width, then the
+-- signed ones, then the floats.
 abbrev pub code_of : PType → ℕ
 code_of U8 = 0
 code_of U16 = 1
@@ -48,7 +48,7 @@ code_of F16 = 8
 code_of F32 = 9
 code_of F64 = 10
 
--- The kind that a number is of.
+-- The kind of a number.
 abbrev pub kind_of : PValue → PType
 kind_of (u8 n) = U8
 kind_of (u16 n) = U16

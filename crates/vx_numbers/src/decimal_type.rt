@@ -32,8 +32,8 @@ impl DecimalType {
         }
     }
 
-    /// Whether a decimal of this width is held as an integer: each is, the widest
-    /// one too, which has 256 bits.
+    /// Whether a decimal of this width is held as an integer: true of each width,
+    /// 256 bits included.
     pub fn is_int(&self) -> bool
         ensures { IsTrue result }
     {
@@ -47,8 +47,7 @@ impl DecimalType {
         }
     }
 
-    /// The number that stands for this width in messages, 0 to 5 (this
-    /// project's numbering).
+    /// The code of this width in messages, 0 to 5 (this project's numbering).
     pub fn code(&self) -> u8
         ensures code { result ≡ decimal_code_of self.now }
         ensures range { result ≤ 5 }
@@ -63,7 +62,7 @@ impl DecimalType {
         }
     }
 
-    /// The width with this code; None if the number is no width's code.
+    /// The width with this code; `None` above 5.
     pub fn from_code(code: u8) -> Option<DecimalType>
         ensures coded { IfSome result (λ width. decimal_code_of width ≡ code) }
         ensures each { (width : DecimalType) → decimal_code_of width ≡ code → result ≡ Some width }

@@ -1,4 +1,4 @@
-//! What holds of the codes of numbers, for the contracts of other crates.
+//! Laws of the codes, for the contracts of other crates.
 
 ghost use Rattle.std.specs.Prelude.{◌≡◌};
 ghost use Rattle.vx_numbers.specs.declared.decimal_type.DecimalType.{DecimalType};
@@ -6,12 +6,12 @@ ghost use Rattle.vx_numbers.specs.declared.ptype.PType.{PType};
 ghost use Rattle.vx_numbers.specs.Decimals.{decimal_code_of};
 ghost use Rattle.vx_numbers.specs.Numbers.{code_of};
 
-/// A code is of one width of decimals at most.
+/// No two widths of decimals share a code.
 pub fn code_is_of_one_decimal_type()
     ensures { (a b : DecimalType) → decimal_code_of a ≡ decimal_code_of b → a ≡ b }
 {}
 
-/// A code is of one kind of numbers at most.
+/// No two kinds of numbers share a code.
 pub fn code_is_of_one_kind()
     ensures { (a b : PType) → code_of a ≡ code_of b → a ≡ b }
 {}

@@ -52,8 +52,7 @@ impl PType {
         }
     }
 
-    /// The number that stands for this kind in messages, 0 to 10 (this
-    /// project's numbering).
+    /// The code of this kind in messages, 0 to 10 (this project's numbering).
     pub fn code(&self) -> u8
         ensures code { result ≡ code_of self.now }
         ensures range { result ≤ 10 }
@@ -73,7 +72,7 @@ impl PType {
         }
     }
 
-    /// The kind with this code; None if the number is no kind's code.
+    /// The kind with this code; `None` above 10.
     pub fn from_code(code: u8) -> Option<PType>
         ensures coded { IfSome result (λ kind. code_of kind ≡ code) }
         ensures each { (kind : PType) → code_of kind ≡ code → result ≡ Some kind }

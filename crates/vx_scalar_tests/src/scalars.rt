@@ -2,7 +2,7 @@
 
 use std::alloc::Global;
 use std::test::Fail;
-use vx_scalars::{DecimalValue, Scalar, ScalarError, ScalarValue, ValueRef, Values, VariantRef};
+use vx_scalars::{DecimalValue, Scalar, ScalarValue, ValueRef, Values, VariantRef};
 use vx_types::{
     Blob, DType, DTypes, DecimalDType, ExtDType, Id, MapDType, Name, Names, Nullability, PType,
     PValue, StructFields, TypeError, TypeIds, TypeRef, UnionVariants,
@@ -18,15 +18,12 @@ fn i32_type() -> DType {
     DType::Primitive(PType::I32, PLAIN)
 }
 
-fn text(alloc: Global, text: &str) -> Result<ScalarValue, ScalarError> {
-    match Name::new(alloc, text) {
-        Ok(text) => Ok(ScalarValue::Utf8(text)),
-        Err(_) => Err(ScalarError::OutOfMemory),
-    }
+fn text(alloc: Global, text: &str) -> Result<ScalarValue, TypeError> {
+    Ok(ScalarValue::Utf8(Name::new(alloc, text)?))
 }
 
-// A tuple of so many times the number 7.
-fn sevens(alloc: Global, count: usize) -> Result<Values, ScalarError> {
+// `count` times the number 7.
+fn sevens(alloc: Global, count: usize) -> Result<Values, TypeError> {
     let mut values = Values::new(alloc);
     for _ in 0..count {
         values.push(Some(number(7)))?;
@@ -34,8 +31,8 @@ fn sevens(alloc: Global, count: usize) -> Result<Values, ScalarError> {
     Ok(values)
 }
 
-// A tuple of one tuple of so many numbers.
-fn nested(alloc: Global, count: usize) -> Result<ScalarValue, ScalarError> {
+// A tuple of one tuple of `count` numbers.
+fn nested(alloc: Global, count: usize) -> Result<ScalarValue, TypeError> {
     let mut values = Values::new(alloc);
     values.push(Some(ScalarValue::Tuple(sevens(alloc, count)?)))?;
     Ok(ScalarValue::Tuple(values))
@@ -91,7 +88,7 @@ fn dtype(alloc: Global, which: usize) -> Result<DType, TypeError> {
 }
 
 // A value, by number; 0 is null.
-fn value(alloc: Global, which: usize) -> Result<Option<ScalarValue>, ScalarError> {
+fn value(alloc: Global, which: usize) -> Result<Option<ScalarValue>, TypeError> {
     match which {
         0 => Ok(None),
         1 => Ok(Some(ScalarValue::Bool(true))),
@@ -118,7 +115,7 @@ fn is_fit(dtype: &DType, value: &Option<ScalarValue>) -> bool {
 }
 
 // Whether the value of this number fits the type.
-fn fits_type(alloc: Global, dtype: &DType, which: usize) -> Result<bool, ScalarError> {
+fn fits_type(alloc: Global, dtype: &DType, which: usize) -> Result<bool, TypeError> {
     match value(alloc, which) {
         Ok(value) => Ok(is_fit(dtype, &value)),
         Err(error) => Err(error),
@@ -126,15 +123,13 @@ fn fits_type(alloc: Global, dtype: &DType, which: usize) -> Result<bool, ScalarE
 }
 
 // Whether a value fits a type, both by number.
-fn fits(alloc: Global, of: usize, which: usize) -> Result<bool, ScalarError> {
-    match dtype(alloc, of) {
-        Ok(dtype) => fits_type(alloc, &dtype, which),
-        Err(_) => Err(ScalarError::OutOfMemory),
-    }
+fn fits(alloc: Global, of: usize, which: usize) -> Result<bool, TypeError> {
+    let dtype = dtype(alloc, of)?;
+    fits_type(alloc, &dtype, which)
 }
 
-// Whether a copy of a value of this number is as null as the value.
-fn is_copied(alloc: Global, which: usize) -> Result<bool, ScalarError> {
+// Whether the value of this number is copied; false for the null.
+fn is_copied(alloc: Global, which: usize) -> Result<bool, TypeError> {
     match value(alloc, which) {
         Ok(Some(value)) => Ok(value.clone(alloc).is_ok()),
         Ok(None) => Ok(false),
@@ -143,7 +138,7 @@ fn is_copied(alloc: Global, which: usize) -> Result<bool, ScalarError> {
 }
 
 // A scalar and its copy.
-fn scalar(alloc: Global, value: Option<ScalarValue>) -> Result<Scalar, ScalarError> {
+fn scalar(alloc: Global, value: Option<ScalarValue>) -> Result<Scalar, TypeError> {
     let numbers = DType::Primitive(PType::I32, Nullability::Nullable);
     let scalar = Scalar::try_new(numbers, value)?;
     scalar.clone(alloc)
@@ -197,18 +192,6 @@ fn values_fit_their_types_alone(rt: HostRuntime) -> Result<(), Fail> {
         (11, 1),
     ] {
         assert!(rt; !fits(alloc, of, which)?, "value {which} at type {of}");
-    }
-    Ok(())
-}
-
-#[test]
-fn refusals_have_texts(rt: HostRuntime) -> Result<(), Fail> {
-    for (error, text) in [
-        (ScalarError::OutOfMemory, "out of memory"),
-        (ScalarError::BadScalar, "the value does not fit the type"),
-    ] {
-        let shown = format!(in rt.alloc(); "{error}")?;
-        assert!(rt; shown.as_str() == text);
     }
     Ok(())
 }

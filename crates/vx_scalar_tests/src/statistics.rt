@@ -2,15 +2,17 @@
 
 use std::alloc::Global;
 use std::test::Fail;
-use vx_scalars::{Precision, ScalarError, ScalarValue, Stat, StatsSet};
-use vx_types::{DType, DecimalDType, Nullability, PType, PValue};
+use vx_scalars::{
+    DType, DecimalDType, Nullability, PType, PValue, Precision, ScalarValue, Stat, StatsSet,
+    TypeError,
+};
 
 fn count(value: u64) -> ScalarValue {
     ScalarValue::Primitive(PValue::U64(value))
 }
 
-// An exact least value, a bound on the greatest, and a count that was told and taken back.
-fn sample(alloc: Global) -> Result<StatsSet, ScalarError> {
+// An exact least value, a bound on the greatest, and a count that was set and removed.
+fn sample(alloc: Global) -> Result<StatsSet, TypeError> {
     let mut set = StatsSet::new(alloc);
     set.set(Stat::NullCount, Precision::Exact(count(3)))?;
     set.set(Stat::Min, Precision::Exact(count(5)))?;
@@ -21,7 +23,7 @@ fn sample(alloc: Global) -> Result<StatsSet, ScalarError> {
     Ok(set)
 }
 
-// The count that is told of a statistic, and whether it is exact.
+// The number of a statistic, and whether it is exact.
 fn told(set: &StatsSet, stat: Stat) -> Option<(u64, bool)> {
     match set.get(stat) {
         Precision::Exact(ScalarValue::Primitive(PValue::U64(n))) => Some((*n, true)),
@@ -45,7 +47,7 @@ fn a_set_keeps_the_last_that_was_told(rt: HostRuntime) -> Result<(), Fail> {
     Ok(())
 }
 
-// Whether it is this type.
+// Whether the type was found and is the wanted one.
 fn is_type(found: &Option<DType>, wanted: &DType) -> bool {
     match found {
         Some(found) => *found == *wanted,
@@ -54,7 +56,7 @@ fn is_type(found: &Option<DType>, wanted: &DType) -> bool {
 }
 
 // Whether a statistic of arrays of a type has this type.
-fn has_type(alloc: Global, stat: Stat, dtype: &DType, wanted: &DType) -> Result<bool, ScalarError> {
+fn has_type(alloc: Global, stat: Stat, dtype: &DType, wanted: &DType) -> Result<bool, TypeError> {
     match stat.dtype(alloc, dtype) {
         Ok(found) => Ok(is_type(&found, wanted)),
         Err(error) => Err(error),
@@ -68,13 +70,13 @@ fn has_kind(
     kind: PType,
     wanted: PType,
     n: Nullability,
-) -> Result<bool, ScalarError> {
+) -> Result<bool, TypeError> {
     let dtype = DType::Primitive(kind, Nullability::NonNullable);
     let wanted = DType::Primitive(wanted, n);
     has_type(alloc, stat, &dtype, &wanted)
 }
 
-// Whether a sum of decimals of so many digits has so many.
+// Whether the sum of decimals of one precision has another.
 fn has_digits(alloc: Global, precision: u8, wanted: u8) -> Result<bool, Fail> {
     let dtype = DType::Decimal(
         DecimalDType::try_new(precision, 2)?,
@@ -85,7 +87,7 @@ fn has_digits(alloc: Global, precision: u8, wanted: u8) -> Result<bool, Fail> {
 }
 
 // Whether arrays of variants have the statistic.
-fn variants_have(alloc: Global, stat: Stat) -> Result<bool, ScalarError> {
+fn variants_have(alloc: Global, stat: Stat) -> Result<bool, TypeError> {
     let dtype = DType::Variant(Nullability::NonNullable);
     match stat.dtype(alloc, &dtype) {
         Ok(found) => Ok(found.is_some()),
@@ -116,8 +118,8 @@ fn a_set_fits_a_type(rt: HostRuntime) -> Result<(), Fail> {
     let others = DType::Primitive(PType::U32, Nullability::NonNullable);
     let variants = DType::Variant(Nullability::Nullable);
     assert!(rt; set.validate(&numbers) == Ok(()));
-    assert!(rt; set.validate(&others) == Err(ScalarError::BadScalar));
-    assert!(rt; set.validate(&variants) == Err(ScalarError::BadScalar));
+    assert!(rt; set.validate(&others) == Err(TypeError::BadScalar));
+    assert!(rt; set.validate(&variants) == Err(TypeError::BadScalar));
     assert!(rt; StatsSet::new(rt.alloc()).validate(&variants) == Ok(()));
     Ok(())
 }

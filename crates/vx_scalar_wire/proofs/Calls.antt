@@ -12,8 +12,8 @@ use Rattle.vx_types.specs.Fits.{Fits}
 use Rattle.vx_types.specs.Typ.{Typ}
 use Rattle.vx_types.specs.Value as V
 use Rattle.vx_scalars.specs.Seen.{seen}
-use Rattle.vx_scalars.specs.declared.error.ScalarError.{ScalarError}
-use Rattle.vx_scalars.specs.declared.error.ScalarError.TheVariants as scalar_error
+use Rattle.vx_types.specs.declared.error.TypeError.{TypeError}
+use Rattle.vx_types.specs.declared.error.TypeError.TheVariants as type_error
 use Rattle.vx_scalars.specs.declared.value.ScalarValue.{ScalarValue}
 use Rattle.vx_scalar_wire.specs.Reading.{ReadsValue, ShowsValue}
 use Rattle.vx_scalar_wire.specs.Refusing.{RefusesReadingValue}
@@ -71,13 +71,13 @@ value_refused_at BadScalar s d m h = inl h
 value_refused_at _ s d m h = h
 
 -- and so is what does not fit.
-pub unfit_at : (x : ScalarError) (e : ScalarWireError) (s : ExtMeaning) (v : V.Value) (d f : Typ) (m : Value) → e ≡ refusal_of_scalar x → (x ≡ scalar_error.BadScalar) × (Fits v f → ⊥) → f ≡ d → ReadsValue s v d m
+pub unfit_at : (x : TypeError) (e : ScalarWireError) (s : ExtMeaning) (v : V.Value) (d f : Typ) (m : Value) → e ≡ refusal_of_scalar x → (x ≡ type_error.BadScalar) × (Fits v f → ⊥) → f ≡ d → ReadsValue s v d m
     → RefusesReadingScalarAt e s d m
 unfit_at x e s v d f m is h same r =
-    subst (λ (y : ScalarWireError). RefusesReadingScalarAt y s d m) (sym (is ∙ ap (λ (y : ScalarError). refusal_of_scalar y) h.0))
+    subst (λ (y : ScalarWireError). RefusesReadingScalarAt y s d m) (sym (is ∙ ap (λ (y : TypeError). refusal_of_scalar y) h.0))
     (inr (v, r, subst (λ (t : Typ). Fits v t → ⊥) same h.1))
 
-pub never_unfit : (x : ScalarError) (e : ScalarWireError) (u v : V.Value) (d f : Typ) → (x ≡ scalar_error.BadScalar) × (Fits u f → ⊥) → f ≡ d → u ≡ v → Fits v d → e ≡ OutOfMemory
+pub never_unfit : (x : TypeError) (e : ScalarWireError) (u v : V.Value) (d f : Typ) → (x ≡ type_error.BadScalar) × (Fits u f → ⊥) → f ≡ d → u ≡ v → Fits v d → e ≡ OutOfMemory
 never_unfit x e u v d f h same is k = absurd (h.1 (subst (λ (t : Typ). Fits u t) (sym same) (subst (λ (y : V.Value). Fits y d) (sym is) k)))
 
 pub ruleset scalars_read = (value_refused_at, unfit_at, never_unfit)

@@ -7,8 +7,8 @@ use Rattle.vx_proto.specs.Written.{nested}
 use Rattle.vx_proto.specs.declared.error.ProtoError.{ProtoError}
 use Rattle.vx_proto.specs.declared.error.ProtoError.TheVariants as proto
 use Rattle.vx_scalar_wire.specs.declared.error.ScalarWireError.{ScalarWireError}
-use Rattle.vx_scalars.specs.declared.error.ScalarError.{ScalarError}
-use Rattle.vx_scalars.specs.declared.error.ScalarError.TheVariants as scalar
+use Rattle.vx_types.specs.declared.error.TypeError.{TypeError}
+use Rattle.vx_types.specs.declared.error.TypeError.TheVariants as type_error
 use Rattle.vx_scalar_wire.specs.declared.error.ScalarWireError.TheVariants.{OutOfMemory, BadMessage, TooDeep, OutOfRange, BadScalar, BadDType, MessageTooLong}
 use Rattle.vx_scalar_wire.specs.declared.error.TypeRefusal.TheVariants.{WireLimit}
 
@@ -44,10 +44,11 @@ builder_error flat.MessageTooLong = MessageTooLong
 builder_error flat.BadTable = OutOfMemory
 builder_error flat.TableLimit = OutOfMemory
 
--- A refusal of a scalar is that of its message.
-abbrev pub refusal_of_scalar : ScalarError → ScalarWireError
-refusal_of_scalar scalar.OutOfMemory = OutOfMemory
-refusal_of_scalar scalar.BadScalar = BadScalar
+-- A refusal of a scalar is that of its message. The calls that make scalars answer
+-- allocation failure and BadScalar alone.
+abbrev pub refusal_of_scalar : TypeError → ScalarWireError
+refusal_of_scalar type_error.OutOfMemory = OutOfMemory
+refusal_of_scalar error = BadScalar
 
 -- Why no bytes are written of a message: something is not shallow, or over 100 messages nest.
 abbrev pub RefusesWritingValueBytes : ScalarWireError → Type 0 → Value → Type 0

@@ -8,7 +8,7 @@ use std::alloc::{AllocError, AllocFailed};
 use thiserror::Error;
 use vx_flat::FlatError;
 use vx_proto::ProtoError;
-use vx_scalars::ScalarError;
+use vx_types::TypeError;
 
 /// Why the type of a scalar is refused.
 #[derive(Clone, Copy, Debug, PartialEq, Eq, Error)]
@@ -98,15 +98,15 @@ impl From<ProtoError> for ScalarWireError {
     }
 }
 
-impl From<ScalarError> for ScalarWireError {
+impl From<TypeError> for ScalarWireError {
     ghost use Rattle.vx_scalar_wire.specs.Writing.{refusal_of_scalar};
 
     ghost from_gives = { λ s e. e ≡ refusal_of_scalar s };
 
-    fn from(error: ScalarError) -> ScalarWireError {
+    fn from(error: TypeError) -> ScalarWireError {
         match error {
-            ScalarError::OutOfMemory => ScalarWireError::OutOfMemory,
-            ScalarError::BadScalar => ScalarWireError::BadScalar,
+            TypeError::OutOfMemory => ScalarWireError::OutOfMemory,
+            _ => ScalarWireError::BadScalar,
         }
     }
 }

@@ -3,15 +3,15 @@
 use std::alloc::Global;
 use vx_proto::Message;
 use vx_scalar_wire::{ScalarExt, ScalarValueExt, ScalarWireError, TypeRefusal, canonical_nan_sum};
-use vx_scalars::{DecimalValue, Scalar, ScalarError, ScalarValue, ValueRef, Values, VariantRef};
-use vx_types::{Blob, DType, Name, Nullability, PType, PValue};
+use vx_scalars::{DecimalValue, Scalar, ScalarValue, ValueRef, Values, VariantRef};
+use vx_types::{Blob, DType, Name, Nullability, PType, PValue, TypeError};
 
 fn number(value: i32) -> ScalarValue {
     ScalarValue::Primitive(PValue::I32(value))
 }
 
 // The numbers 42 and 43.
-fn two_numbers(alloc: Global) -> Result<Values, ScalarError> {
+fn two_numbers(alloc: Global) -> Result<Values, TypeError> {
     let mut values = Values::new(alloc);
     values.push(Some(number(42)))?;
     values.push(Some(number(43)))?;
@@ -19,23 +19,23 @@ fn two_numbers(alloc: Global) -> Result<Values, ScalarError> {
 }
 
 /// The text `hi`.
-pub(crate) fn text(alloc: Global) -> Result<ScalarValue, ScalarError> {
+pub(crate) fn text(alloc: Global) -> Result<ScalarValue, TypeError> {
     match Name::new(alloc, "hi") {
         Ok(text) => Ok(ScalarValue::Utf8(text)),
-        Err(_) => Err(ScalarError::OutOfMemory),
+        Err(_) => Err(TypeError::OutOfMemory),
     }
 }
 
 /// One byte.
-pub(crate) fn one_byte(alloc: Global) -> Result<ScalarValue, ScalarError> {
+pub(crate) fn one_byte(alloc: Global) -> Result<ScalarValue, TypeError> {
     match Blob::copy_from(alloc, &[0xff]) {
         Ok(bytes) => Ok(ScalarValue::Binary(bytes)),
-        Err(_) => Err(ScalarError::OutOfMemory),
+        Err(_) => Err(TypeError::OutOfMemory),
     }
 }
 
 // A value, by number; 0 is null.
-fn value(alloc: Global, which: usize) -> Result<Option<ScalarValue>, ScalarError> {
+fn value(alloc: Global, which: usize) -> Result<Option<ScalarValue>, TypeError> {
     match which {
         0 => Ok(None),
         1 => Ok(Some(ScalarValue::Bool(true))),
@@ -59,7 +59,7 @@ fn is_written(alloc: Global, value: &Option<ScalarValue>, bytes: &[u8]) -> bool 
 }
 
 // Whether a value that is made first is written as these bytes.
-fn is_made(alloc: Global, made: Result<Option<ScalarValue>, ScalarError>, bytes: &[u8]) -> bool {
+fn is_made(alloc: Global, made: Result<Option<ScalarValue>, TypeError>, bytes: &[u8]) -> bool {
     match made {
         Ok(value) => is_written(alloc, &value, bytes),
         Err(_) => false,
@@ -94,7 +94,7 @@ fn values_have_their_bytes(rt: HostRuntime) {
 }
 
 // A float, bytes or a variant, by number.
-fn other_value(alloc: Global, which: usize) -> Result<Option<ScalarValue>, ScalarError> {
+fn other_value(alloc: Global, which: usize) -> Result<Option<ScalarValue>, TypeError> {
     match which {
         0 => Ok(Some(ScalarValue::Primitive(PValue::F32(1)))),
         1 => Ok(Some(ScalarValue::Primitive(PValue::F64(2)))),
@@ -127,14 +127,14 @@ fn floats_bytes_and_variants_have_their_bytes(rt: HostRuntime) {
 }
 
 // A tuple round another value.
-fn wrapped(alloc: Global, inner: Option<ScalarValue>) -> Result<Option<ScalarValue>, ScalarError> {
+fn wrapped(alloc: Global, inner: Option<ScalarValue>) -> Result<Option<ScalarValue>, TypeError> {
     let mut values = Values::new(alloc);
     values.push(inner)?;
     Ok(Some(ScalarValue::Tuple(values)))
 }
 
 // So many tuples, each in the next, round an innermost one.
-fn nested(alloc: Global, count: usize, inner: Values) -> Result<Option<ScalarValue>, ScalarError> {
+fn nested(alloc: Global, count: usize, inner: Values) -> Result<Option<ScalarValue>, TypeError> {
     let mut value = Some(ScalarValue::Tuple(inner));
     for _ in 1..count {
         value = wrapped(alloc, value)?;
@@ -143,7 +143,7 @@ fn nested(alloc: Global, count: usize, inner: Values) -> Result<Option<ScalarVal
 }
 
 // A tuple of a null.
-fn one_null(alloc: Global) -> Result<Values, ScalarError> {
+fn one_null(alloc: Global) -> Result<Values, TypeError> {
     let mut values = Values::new(alloc);
     values.push(None)?;
     Ok(values)
@@ -158,13 +158,13 @@ fn is_too_deep(alloc: Global, value: &Option<ScalarValue>) -> bool {
 }
 
 // Whether so many tuples are refused for their depth.
-fn are_too_deep(alloc: Global, count: usize, inner: Values) -> Result<bool, ScalarError> {
+fn are_too_deep(alloc: Global, count: usize, inner: Values) -> Result<bool, TypeError> {
     let value = nested(alloc, count, inner)?;
     Ok(is_too_deep(alloc, &value))
 }
 
 // The same round a null.
-fn are_too_deep_round_null(alloc: Global, count: usize) -> Result<bool, ScalarError> {
+fn are_too_deep_round_null(alloc: Global, count: usize) -> Result<bool, TypeError> {
     let inner = one_null(alloc)?;
     are_too_deep(alloc, count, inner)
 }
@@ -182,13 +182,13 @@ fn variant(
     alloc: Global,
     dtype: DType,
     value: Option<ScalarValue>,
-) -> Result<Option<ScalarValue>, ScalarError> {
+) -> Result<Option<ScalarValue>, TypeError> {
     let scalar = Scalar::try_new(dtype, value)?;
     Ok(Some(ScalarValue::Variant(VariantRef::new(alloc, scalar)?)))
 }
 
 // So many variants, each in the next, over the number 42.
-fn variants(alloc: Global, count: usize) -> Result<Option<ScalarValue>, ScalarError> {
+fn variants(alloc: Global, count: usize) -> Result<Option<ScalarValue>, TypeError> {
     let numbers = DType::Primitive(PType::I32, Nullability::NonNullable);
     let mut value = variant(alloc, numbers, Some(number(42)))?;
     for _ in 1..count {
@@ -198,7 +198,7 @@ fn variants(alloc: Global, count: usize) -> Result<Option<ScalarValue>, ScalarEr
 }
 
 // Whether so many variants are refused for their depth.
-fn are_variants_too_deep(alloc: Global, count: usize) -> Result<bool, ScalarError> {
+fn are_variants_too_deep(alloc: Global, count: usize) -> Result<bool, TypeError> {
     let value = variants(alloc, count)?;
     Ok(is_too_deep(alloc, &value))
 }
@@ -210,7 +210,7 @@ fn a_hundred_messages_nest_in_variants(rt: HostRuntime) {
 }
 
 // A scalar of the number 42.
-fn scalar() -> Result<Scalar, ScalarError> {
+fn scalar() -> Result<Scalar, TypeError> {
     let numbers = DType::Primitive(PType::I32, Nullability::NonNullable);
     Scalar::try_new(numbers, Some(number(42)))
 }

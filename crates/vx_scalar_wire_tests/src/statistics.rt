@@ -6,8 +6,8 @@ use std::alloc::Global;
 use std::process::Abort;
 use vx_flat::{BlockField, Builder, FlatBuffer, FlatError, verify_uncounted};
 use vx_scalar_wire::{ScalarWireError, StatsKind, StatsSetExt};
-use vx_scalars::{DecimalValue, Precision, ScalarError, ScalarValue, Stat, StatsSet};
-use vx_types::{DType, PValue};
+use vx_scalars::{DecimalValue, Precision, ScalarValue, Stat, StatsSet};
+use vx_types::{DType, PValue, TypeError};
 
 fn number(value: i32) -> ScalarValue {
     ScalarValue::Primitive(PValue::I32(value))
@@ -22,7 +22,7 @@ fn with_least(
     alloc: Global,
     stat: Stat,
     told: Precision<ScalarValue>,
-) -> Result<StatsSet, ScalarError> {
+) -> Result<StatsSet, TypeError> {
     let mut set = StatsSet::new(alloc);
     set.set(Stat::Min, Precision::Exact(number(1)))?;
     set.set(stat, told)?;
@@ -30,7 +30,7 @@ fn with_least(
 }
 
 // A least value of 1 and no nulls, both exact.
-fn worked_set(alloc: Global) -> Result<StatsSet, ScalarError> {
+fn worked_set(alloc: Global) -> Result<StatsSet, TypeError> {
     with_least(alloc, Stat::NullCount, Precision::Exact(count(0)))
 }
 
@@ -166,7 +166,7 @@ fn a_value_is_read_at_its_type(rt: HostRuntime) {
 }
 
 // A least value of 1, and a bound on the sum.
-fn with_bound(alloc: Global) -> Result<StatsSet, ScalarError> {
+fn with_bound(alloc: Global) -> Result<StatsSet, TypeError> {
     let bound = ScalarValue::Primitive(PValue::I64(3));
     with_least(alloc, Stat::Sum, Precision::Inexact(bound))
 }
@@ -198,7 +198,7 @@ fn a_bound_on_a_sum_is_not_written(rt: HostRuntime) {
 }
 
 // A value by how it is read; a text is `hi`, and bytes are one.
-fn value_of(alloc: Global, answer: Answer) -> Result<ScalarValue, ScalarError> {
+fn value_of(alloc: Global, answer: Answer) -> Result<ScalarValue, TypeError> {
     match answer {
         Answer::Bool(flag) => Ok(ScalarValue::Bool(flag)),
         Answer::Number(number) => Ok(ScalarValue::Primitive(number)),
@@ -213,7 +213,7 @@ fn precision_of(
     alloc: Global,
     exact: bool,
     value: Answer,
-) -> Result<Precision<ScalarValue>, ScalarError> {
+) -> Result<Precision<ScalarValue>, TypeError> {
     let value = value_of(alloc, value)?;
     Ok(if exact {
         Precision::Exact(value)
@@ -223,12 +223,7 @@ fn precision_of(
 }
 
 // A set of one statistic.
-fn set_with(
-    alloc: Global,
-    stat: Stat,
-    exact: bool,
-    value: Answer,
-) -> Result<StatsSet, ScalarError> {
+fn set_with(alloc: Global, stat: Stat, exact: bool, value: Answer) -> Result<StatsSet, TypeError> {
     let told = precision_of(alloc, exact, value)?;
     let mut set = StatsSet::new(alloc);
     set.set(stat, told)?;

@@ -1,5 +1,5 @@
--- What is written of a set of statistics fits as the set does, and is written as it is; a set fits a type under
--- another nullability.
+-- The written part of a set fits every type that the set fits, and its own written part is itself; a set that fits
+-- a type fits it under any nullability.
 use Rattle.std.specs.Prelude.{nat_lt, option_map, if◌then◌else◌}
 use Rattle.std.proofs.Common.{ℕ, ◌≡◌, ◌%◌, ◌^◌, Bool, true, false, Option, Some, None, refl, sym, ap, ◌∙◌, subst}
 use Rattle.vx_trees.specs.Rose.{node}
@@ -18,11 +18,13 @@ use Rattle.vx_types.proofs.LawsOfTypes.{bare_under}
 use Rattle.vx_scalars.specs.Nans.{quiet, nan_canonical}
 use Rattle.vx_scalars.specs.StatTypes.{ordered, sum_type, flag_type, count_type}
 use Rattle.vx_scalars.specs.Stats.{Told, Stats, no_stats, IsOfType, FitsTold, FitStats}
-use Rattle.vx_scalars.specs.WrittenStats.{canonical_sum, written_sum, exact_flag, exact_count, told_mark, written_flag, written_count, written_stats}
+use Rattle.vx_scalars.specs.WrittenStats.{canonical_sum, written_sum, exact_flag, exact_count, told_mark}
+use Rattle.vx_scalars.specs.WrittenStats.{written_flag, written_count, written_stats}
 use Rattle.vx_scalars.specs.declared.precision.Precision.TheVariants.{Exact, Inexact, Absent}
-use Rattle.vx_scalars.specs.declared.stat.Stat.TheVariants.{Min, Max, Sum, IsSorted, IsStrictSorted, IsConstant, NullCount, UncompressedSizeInBytes, NaNCount}
+use Rattle.vx_scalars.specs.declared.stat.Stat.TheVariants.{Min, Max, Sum, IsSorted, IsStrictSorted, IsConstant}
+use Rattle.vx_scalars.specs.declared.stat.Stat.TheVariants.{NullCount, UncompressedSizeInBytes, NaNCount}
 
--- Where nothing is told, all fits.
+-- An empty set fits every type.
 pub none_fit : (d : Typ) → FitStats d no_stats
 none_fit d Min = tt
 none_fit d Max = tt
@@ -75,17 +77,19 @@ written_fit d t f NullCount = count_fits (exact_count t.null_count)
 written_fit d t f UncompressedSizeInBytes = count_fits (exact_count t.uncompressed_size)
 written_fit d t f NaNCount = count_fits (exact_count t.nan_count)
 
--- ---- what is written is written as it is
+-- ---- writing twice
 
 either : {A : Type 0} (b : Bool) (x : A) → (if b then x else x) ≡ x
 either true x = refl
 either false x = refl
 
-quiet_again : (sign infinity nan bits : ℕ) (b : Bool) → nat_lt infinity (bits % sign) ≡ b → quiet sign infinity nan (if b then nan else bits) ≡ (if b then nan else bits)
+quiet_again : (sign infinity nan bits : ℕ) (b : Bool) → nat_lt infinity (bits % sign) ≡ b
+    → quiet sign infinity nan (if b then nan else bits) ≡ (if b then nan else bits)
 quiet_again sign infinity nan bits true e = either (nat_lt infinity (nan % sign)) nan
 quiet_again sign infinity nan bits false e = ap (λ (b : Bool). if b then nan else bits) e
 
-quiet_twice : (sign infinity nan bits : ℕ) → quiet sign infinity nan (quiet sign infinity nan bits) ≡ quiet sign infinity nan bits
+quiet_twice : (sign infinity nan bits : ℕ)
+    → quiet sign infinity nan (quiet sign infinity nan bits) ≡ quiet sign infinity nan bits
 quiet_twice sign infinity nan bits = quiet_again sign infinity nan bits (nat_lt infinity (bits % sign)) refl
 
 nan_twice : (n : PValue) → nan_canonical (nan_canonical n) ≡ nan_canonical n
@@ -111,7 +115,7 @@ count_twice : (o : Option ℕ) → exact_count (told_mark (option_map (λ n. V.n
 count_twice None = refl
 count_twice (Some n) = refl
 
--- A flag and a count that are written are those that are told.
+-- A written flag or count is that of the set.
 pub written_flag_exact : (x : Told) → exact_flag (written_flag x) ≡ exact_flag x
 written_flag_exact x = flag_twice (exact_flag x)
 
@@ -147,7 +151,8 @@ written_twice t =
 
 -- ---- under another nullability
 
-ordered_under : (m : Nullability) (d : Typ) (v : V.Value) → IsOfType (ordered d) v → IsOfType (ordered (with_nullability m d)) v
+ordered_under : (m : Nullability) (d : Typ) (v : V.Value) → IsOfType (ordered d) v
+    → IsOfType (ordered (with_nullability m d)) v
 ordered_under m (node (K.boolean x) ts) (node V.null vs) f = absurd (cc)
 ordered_under m (node (K.boolean x) ts) _ f = f
 ordered_under m (node (K.primitive p x) ts) (node V.null vs) f = absurd (cc)
@@ -160,19 +165,21 @@ ordered_under m (node (K.binary x) ts) (node V.null vs) f = absurd (cc)
 ordered_under m (node (K.binary x) ts) _ f = f
 ordered_under m _ v f = absurd f
 
-told_under : (m : Nullability) (d : Typ) (x : Told) → FitsTold (ordered d) x → FitsTold (ordered (with_nullability m d)) x
+told_under : (m : Nullability) (d : Typ) (x : Told) → FitsTold (ordered d) x
+    → FitsTold (ordered (with_nullability m d)) x
 told_under m d (Exact v) f = ordered_under m d v f
 told_under m d (Inexact v) f = ordered_under m d v f
 told_under m d Absent f = tt
 
-bound_under : (m : Nullability) (d : Typ) (x : Told) → FitsTold (ordered (bare d)) x → FitsTold (ordered (bare (with_nullability m d))) x
+bound_under : (m : Nullability) (d : Typ) (x : Told) → FitsTold (ordered (bare d)) x
+    → FitsTold (ordered (bare (with_nullability m d))) x
 bound_under m d x f = subst (λ (z : Typ). FitsTold (ordered z) x) (sym (bare_under m d)) (told_under m (bare d) x f)
 
 sum_under : (m : Nullability) (d : Typ) → sum_type (with_nullability m d) ≡ sum_type d
 sum_under m (node K.null ts) = refl
 sum_under m _ = refl
 
--- Which statistics fit a type does not go by its nullability.
+-- Whether statistics fit a type does not depend on its nullability.
 pub fit_under : (m : Nullability) (d : Typ) (t : Stats) → FitStats d t → FitStats (with_nullability m d) t
 fit_under m d t f Min = bound_under m d t.least (f Min)
 fit_under m d t f Max = bound_under m d t.greatest (f Max)

@@ -1,4 +1,4 @@
--- Each part of a value is smaller than the value, as the check asks for it.
+-- Each part of a value is smaller than the value, in the form that the check asks for.
 use Rattle.std.specs.Prelude.{List, [], ◌∷◌, Option, Some, None, Box, ◌+◌, ◌*◌, ◌≤◌}
 use Rattle.std.proofs.Common.{arith, Global}
 use Rattle.vx_trees.specs.Rose.{roses_of}
@@ -7,9 +7,11 @@ use denote.Param.Weighed.{most}
 use Rattle.vx_scalars.specs.Seen.{value_of, seen, all_seen, value_behind}
 use Rattle.vx_scalars.specs.Measures.{value_size}
 use Rattle.vx_scalars.specs.declared.value.ScalarValue.{ScalarValue}
-use Rattle.vx_scalars.specs.declared.value.ScalarValue.TheVariants.{the_data, Bool, Primitive, Decimal, Utf8, Binary, Tuple, Union, Variant}
+use Rattle.vx_scalars.specs.declared.value.ScalarValue.TheVariants.{the_data, Bool, Primitive, Decimal, Utf8}
+use Rattle.vx_scalars.specs.declared.value.ScalarValue.TheVariants.{Binary, Tuple, Union, Variant}
 use Rattle.vx_scalars.specs.declared.scalar.Scalar.TheDeep.{deep-ScalarValue}
-use Rattle.vx_scalars.specs.declared.scalar.Scalar.TheShapes.{weighed-Scalar-value, weighed-ValueRef-value, weighed-Values-items-at-1}
+use Rattle.vx_scalars.specs.declared.scalar.Scalar.TheShapes.{weighed-Scalar-value, weighed-ValueRef-value}
+use Rattle.vx_scalars.specs.declared.scalar.Scalar.TheShapes.{weighed-Values-items-at-1}
 
 pub deep_le-size : (v : ScalarValue) → deep-ScalarValue v ≤ value_size (value_of v)
 deep_le-size (Bool b) = omega arith
@@ -21,11 +23,13 @@ deep_le-size (Tuple vs) = omega arith
 deep_le-size (Union tag v) = omega arith
 deep_le-size (Variant s) = omega arith
 
-pub scalar_le-size : (v : Option ScalarValue) → (weighed-Scalar-value).weight the_data deep-ScalarValue v ≤ value_size (seen v)
+pub scalar_le-size : (v : Option ScalarValue)
+    → (weighed-Scalar-value).weight the_data deep-ScalarValue v ≤ value_size (seen v)
 scalar_le-size None = omega arith
 scalar_le-size (Some v) = omega (arith, deep_le-size v)
 
-pub item_le-size : (v : Option ScalarValue) → (weighed-Values-items-at-1).weight the_data deep-ScalarValue v ≤ value_size (seen v)
+pub item_le-size : (v : Option ScalarValue)
+    → (weighed-Values-items-at-1).weight the_data deep-ScalarValue v ≤ value_size (seen v)
 item_le-size None = omega arith
 item_le-size (Some v) = omega (arith, deep_le-size v)
 
@@ -33,6 +37,7 @@ pub most_le-size : (vs : List (Option ScalarValue)) → most (λ v. (weighed-Val
 most_le-size [] = omega arith
 most_le-size (v ∷ vs) = omega (arith, most_le-size vs, item_le-size v)
 
-pub place_le-size : (v : Option (Box ScalarValue Global)) → (weighed-ValueRef-value).weight the_data deep-ScalarValue v ≤ value_size (value_behind v) + 1
+pub place_le-size : (v : Option (Box ScalarValue Global))
+    → (weighed-ValueRef-value).weight the_data deep-ScalarValue v ≤ value_size (value_behind v) + 1
 place_le-size None = omega arith
 place_le-size (Some b) = omega (arith, deep_le-size b.value)

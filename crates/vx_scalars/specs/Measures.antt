@@ -1,11 +1,11 @@
--- What recursions over values, of scalars and of rows, go down by: each part of a value is smaller than the value.
+-- Sizes of values, of scalars and of rows, by which recursion ends: each part of a value is smaller than the value.
 use Rattle.std.specs.Prelude.{ℕ, List, ◌+◌, ◌*◌}
 use Rattle.vx_trees.specs.Rose.{roses_of}
 use Rattle.vx_trees.specs.Walks.{nodes, nodes_of}
 use Rattle.vx_types.specs.Value.{Value}
 use Rattle.vx_scalars.specs.Told.{Typed}
 
--- Sizes for recursions: four times the nodes, so that each part lies between a value and the values within it.
+-- Four times the number of nodes, so that each part has a size between that of a value and those within it.
 abbrev pub value_size : Value → ℕ
 value_size v = 4 * nodes v
 

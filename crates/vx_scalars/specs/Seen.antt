@@ -1,10 +1,11 @@
--- A declared value as the tree of marks that contracts see.
+-- The tree of marks that contracts see of a `ScalarValue`.
 use Rattle.std.specs.Prelude.{List, Option, Some, None, Box, map as each}
 use Rattle.vx_trees.specs.Rose.{node, end, more, roses_of}
 use Rattle.vx_types.specs.Value.{Value, lone, null, bool, number, decimal, utf8, binary, tuple, union, variant}
 use Rattle.vx_scalars.specs.Decimals.{decimal_of}
 use Rattle.vx_scalars.specs.declared.value.ScalarValue.{ScalarValue}
-use Rattle.vx_scalars.specs.declared.value.ScalarValue.TheVariants.{Bool, Primitive, Decimal, Utf8, Binary, Tuple, Union, Variant}
+use Rattle.vx_scalars.specs.declared.value.ScalarValue.TheVariants.{Bool, Primitive, Decimal, Utf8, Binary}
+use Rattle.vx_scalars.specs.declared.value.ScalarValue.TheVariants.{Tuple, Union, Variant}
 
 -- A value that is not null.
 abbrev pub value_of : ScalarValue → Value
@@ -17,16 +18,16 @@ value_of (Tuple vs) = node tuple (roses_of vs)
 value_of (Union tag v) = node (union tag) (more v end)
 value_of (Variant s) = node (variant s.dtype) (more s.value end)
 
--- A value that may be null: none is null.
+-- A value that may be null; None is null.
 abbrev pub seen : Option ScalarValue → Value
 seen None = lone null
 seen (Some v) = value_of v
 
--- Values, each as its tree.
+-- The trees of a list of values.
 abbrev pub all_seen : List (Option ScalarValue) → List Value
 all_seen vs = each seen vs
 
--- A value after a pointer, which may be null.
+-- A boxed value; None is null.
 abbrev pub value_behind : {A : Type 0} → Option (Box ScalarValue A) → Value
 value_behind None = lone null
 value_behind (Some b) = value_of b.value

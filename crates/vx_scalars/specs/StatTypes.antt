@@ -8,13 +8,15 @@ use Rattle.vx_types.specs.declared.nullability.Nullability.TheVariants.{Nullable
 use Rattle.vx_numbers.specs.declared.ptype.PType.{PType}
 use Rattle.vx_numbers.specs.declared.ptype.PType.TheVariants as P
 use Rattle.vx_scalars.specs.declared.stat.Stat.{Stat}
-use Rattle.vx_scalars.specs.declared.stat.Stat.TheVariants.{Min, Max, Sum, IsSorted, IsStrictSorted, IsConstant, NullCount, UncompressedSizeInBytes, NaNCount}
+use Rattle.vx_scalars.specs.declared.stat.Stat.TheVariants.{Min, Max, Sum, IsSorted, IsStrictSorted, IsConstant}
+use Rattle.vx_scalars.specs.declared.stat.Stat.TheVariants.{NullCount, UncompressedSizeInBytes, NaNCount}
 
--- The nine, in the order in which a table has them.
+-- The nine statistics, in the order of their declaration.
 abbrev pub all_stats : List Stat
-all_stats = Min ∷ Max ∷ Sum ∷ IsSorted ∷ IsStrictSorted ∷ IsConstant ∷ NullCount ∷ UncompressedSizeInBytes ∷ NaNCount ∷ []
+all_stats =
+    Min ∷ Max ∷ Sum ∷ IsSorted ∷ IsStrictSorted ∷ IsConstant ∷ NullCount ∷ UncompressedSizeInBytes ∷ NaNCount ∷ []
 
--- The place of a statistic among the nine.
+-- The index of a statistic among the nine.
 abbrev pub stat_index : Stat → ℕ
 stat_index Min = 0
 stat_index Max = 1
@@ -26,7 +28,7 @@ stat_index NullCount = 6
 stat_index UncompressedSizeInBytes = 7
 stat_index NaNCount = 8
 
--- Flags, numbers, decimals, texts and bytes have a least and a greatest value, of their own type.
+-- The types whose rows have a least and a greatest value: flags, numbers, decimals, texts and bytes.
 abbrev pub ordered : Typ → Option Typ
 ordered (node (boolean m) ts) = Some (node (boolean m) ts)
 ordered (node (primitive p m) ts) = Some (node (primitive p m) ts)
@@ -35,7 +37,7 @@ ordered (node (utf8 m) ts) = Some (node (utf8 m) ts)
 ordered (node (binary m) ts) = Some (node (binary m) ts)
 ordered _ = None
 
--- A sum of numbers is of the widest kind of their sort.
+-- The kind of a sum of numbers: the widest of the same sort.
 abbrev pub sum_kind : PType → PType
 sum_kind P.U8 = P.U64
 sum_kind P.U16 = P.U64
@@ -49,8 +51,8 @@ sum_kind P.F16 = P.F64
 sum_kind P.F32 = P.F64
 sum_kind P.F64 = P.F64
 
--- A sum may be null. Flags are counted, and a sum of decimals has ten digits more, 76 at most. An extension has
--- no sum.
+-- The type of a sum, which is nullable: of flags their count, of decimals ten digits more, at most 76. An
+-- extension has no sum.
 abbrev pub sum_type : Typ → Option Typ
 sum_type (node (boolean m) ts) = Some (node (primitive P.U64 Nullable) end)
 sum_type (node (primitive p m) ts) = Some (node (primitive (sum_kind p) Nullable) end)
@@ -63,8 +65,8 @@ flag_type = node (boolean NonNullable) end
 abbrev pub count_type : Typ
 count_type = node (primitive P.U64 NonNullable) end
 
--- The type of a statistic of arrays of a type, where they have it. The least and the greatest value of an extension
--- are of its storage's type, at every level.
+-- The type of a statistic of arrays of a type; None where they do not have it. The least and the greatest value
+-- of an extension have the bare type.
 abbrev pub stat_type : Stat → Typ → Option Typ
 stat_type Min d = ordered (bare d)
 stat_type Max d = ordered (bare d)

@@ -1,4 +1,4 @@
--- Statistics: what is told of an array's rows.
+-- The statistics of an array's rows.
 use Rattle.std.specs.Prelude.{◌≡◌, ◌==◌, false, if◌then◌else◌, List, [], ◌∷◌, Option, Some, None, refl, ◌⊎◌}
 use Rattle.std.specs.Coded.{Coded, code_by, coded⊎, coded_list}
 use Rattle.std.proofs.Common.{get_or}
@@ -12,14 +12,15 @@ use Rattle.vx_scalars.specs.StatTypes.{stat_index, stat_type}
 use Rattle.vx_scalars.specs.declared.precision.Precision.{Precision}
 use Rattle.vx_scalars.specs.declared.precision.Precision.TheVariants.{Exact, Inexact, Absent}
 use Rattle.vx_scalars.specs.declared.stat.Stat.{Stat}
-use Rattle.vx_scalars.specs.declared.stat.Stat.TheVariants.{Min, Max, Sum, IsSorted, IsStrictSorted, IsConstant, NullCount, UncompressedSizeInBytes, NaNCount}
+use Rattle.vx_scalars.specs.declared.stat.Stat.TheVariants.{Min, Max, Sum, IsSorted, IsStrictSorted, IsConstant}
+use Rattle.vx_scalars.specs.declared.stat.Stat.TheVariants.{NullCount, UncompressedSizeInBytes, NaNCount}
 use Rattle.vx_scalars.specs.declared.value.ScalarValue.{ScalarValue}
 
--- What is told of one statistic: exactly, as a bound, or nothing.
+-- What is known of one statistic: its value, a bound, or nothing.
 abbrev pub Told : Type 0
 Told = Precision Value
 
--- What is told of each of the nine.
+-- What is known of each of the nine.
 pub record Stats : Type 0 where
   pub least : Told
   pub greatest : Told
@@ -31,7 +32,7 @@ pub record Stats : Type 0 where
   pub uncompressed_size : Told
   pub nan_count : Told
 
--- What a function tells of each.
+-- The set of what a function gives for each.
 abbrev pub stats_of : (Stat → Told) → Stats
 stats_of f = record {
   least = f Min;
@@ -45,11 +46,11 @@ stats_of f = record {
   nan_count = f NaNCount;
 }
 
--- Nothing is told.
+-- Nothing is known.
 abbrev pub no_stats : Stats
 no_stats = stats_of (λ s. Absent)
 
--- What is told of a statistic.
+-- What is known of a statistic.
 abbrev pub told_at : Stats → Stat → Told
 told_at t Min = t.least
 told_at t Max = t.greatest
@@ -61,7 +62,7 @@ told_at t NullCount = t.null_count
 told_at t UncompressedSizeInBytes = t.uncompressed_size
 told_at t NaNCount = t.nan_count
 
--- The same with another thing told of one statistic.
+-- The set with one statistic changed.
 abbrev pub with_told : Stats → Stat → Told → Stats
 with_told t Min x = record t { least = x }
 with_told t Max x = record t { greatest = x }
@@ -73,58 +74,58 @@ with_told t NullCount x = record t { null_count = x }
 with_told t UncompressedSizeInBytes x = record t { uncompressed_size = x }
 with_told t NaNCount x = record t { nan_count = x }
 
--- ---- what is told of values as code has them
+-- ---- sets as code has them, by entries
 
--- The value as a tree.
+-- A precision of values, as one of their trees.
 abbrev pub told : Precision ScalarValue → Told
 told (Exact v) = Exact (value_of v)
 told (Inexact v) = Inexact (value_of v)
 told Absent = Absent
 
--- An entry of a set: a statistic, and what is told of it.
+-- An entry of a set: a statistic, and what is known of it.
 abbrev pub Entry : Type 0
 Entry = Stat × Precision ScalarValue
 
--- What the first of these entries of a statistic tells.
+-- What the first entry of a statistic gives; Absent without one.
 abbrev pub told_in : Stat → List Entry → Told
 told_in s [] = Absent
 told_in s (x ∷ xs) = if stat_index s == stat_index x.0 then told x.1 else told_in s xs
 
--- No entry is of the statistic.
+-- The statistic has no entry.
 abbrev pub IsNowhere : Stat → List Entry → Type 0
 IsNowhere s [] = Unit {0}
 IsNowhere s (x ∷ xs) = ((stat_index s == stat_index x.0) ≡ false) × IsNowhere s xs
 
--- Something is told.
+-- It is not Absent.
 abbrev pub IsTold : Told → Type 0
 IsTold (Exact v) = Unit {0}
 IsTold (Inexact v) = Unit {0}
 IsTold Absent = ⊥
 
--- Each entry tells something, and none is of a statistic of which another is.
+-- No entry is Absent, and no statistic has two entries.
 abbrev pub AreEntries : List Entry → Type 0
 AreEntries [] = Unit {0}
 AreEntries (x ∷ xs) = IsNowhere x.0 xs × IsTold (told x.1) × AreEntries xs
 
--- The entries of a set, each once: what they tell is what the set tells.
+-- The entries of a set: one for each statistic that is not Absent.
 pub record ListsEach (t : Stats) (xs : List Entry) : Type 0 where
   pub entries : AreEntries xs
   pub tell : t ≡ stats_of (λ s. told_in s xs)
 
--- ---- of a type
+-- ---- types of statistics
 
--- A value of the type of a statistic, and not null.
+-- A value has the type of a statistic, and is not null.
 abbrev pub IsOfType : Option Typ → Value → Type 0
 IsOfType None v = ⊥
 IsOfType (Some d) v = Fits v d × (is_null v ≡ false)
 
--- What is told is of the type.
+-- A statistic is Absent or has its type.
 abbrev pub FitsTold : Option Typ → Told → Type 0
 FitsTold d (Exact v) = IsOfType d v
 FitsTold d (Inexact v) = IsOfType d v
 FitsTold d Absent = Unit {0}
 
--- Each statistic of arrays of a type is a value of its type.
+-- Each statistic is Absent or has the type that it has for arrays of a type.
 abbrev pub FitStats : Typ → Stats → Type 0
 FitStats d t = (s : Stat) → FitsTold (stat_type s d) (told_at t s)
 
@@ -148,11 +149,12 @@ restored-stored_told (Exact v) = refl
 restored-stored_told (Inexact v) = refl
 restored-stored_told Absent = refl
 
--- What is told is stored by its case.
+-- The code of a statistic, by its constructor.
 abbrev pub told_code : Coded Told
-told_code = code_by StoredTold (coded⊎ value_code (coded⊎ value_code coded_unit)) stored_told restored_told restored-stored_told
+told_code =
+    code_by StoredTold (coded⊎ value_code (coded⊎ value_code coded_unit)) stored_told restored_told restored-stored_told
 
--- Statistics are stored one after the other.
+-- The code of a set, as the list of its nine statistics.
 abbrev pub stats_code : Coded Stats
 stats_code =
     code_by (List Told) (coded_list told_code)

@@ -4,11 +4,11 @@ use Rattle.std.specs.Coded.{Coded, code_by, coded×}
 use Rattle.vx_types.specs.Typ.{Typ, typ_code}
 use Rattle.vx_types.specs.Value.{Value, value_code}
 
--- A value with the type that it is of.
+-- A type, and a value.
 pub record Typed : Type 0 where
   pub dtype : Typ
   pub value : Value
 
--- A scalar is stored as its two parts.
+-- The code of a scalar, by its two parts.
 abbrev pub typed_code : Coded Typed
 typed_code = code_by (Typ × Value) (coded× typ_code value_code) (λ s. (s.dtype, s.value)) (λ p. record { dtype = p.0; value = p.1 }) (λ _. refl)

@@ -2,18 +2,18 @@
 
 ghost use Rattle.std.specs.Prelude.{◌≡◌, IfOk, IsOkUnless, option_copied};
 
-use crate::error::ScalarError;
 use crate::value::ScalarValue;
 use std::alloc::Global;
+use vx_types::TypeError;
 
-// A copy of a value that may be null.
+// A copy of a value; `None` is a null.
 #[cycle(copy)]
 pub(crate) fn copied(
     value: Option<&ScalarValue>,
     alloc: Global,
-) -> Result<Option<ScalarValue>, ScalarError>
+) -> Result<Option<ScalarValue>, TypeError>
     ensures ok { IfOk result (λ copy. copy ≡ option_copied value.entry) }
-    ensures err { IsOkUnless result ScalarError.OutOfMemory }
+    ensures err { IsOkUnless result TypeError.OutOfMemory }
 {
     match value {
         None => Ok(None),
@@ -21,15 +21,15 @@ pub(crate) fn copied(
     }
 }
 
-// Copies of the values.
+// Copies of values, in order.
 #[cycle(copy)]
 #[tactic(auto, using(crate::proofs::LawsOfLists::decreasing))]
 pub(crate) fn copy_all(
     values: &[Option<ScalarValue>],
     alloc: Global,
-) -> Result<Vec<Option<ScalarValue>>, ScalarError>
+) -> Result<Vec<Option<ScalarValue>>, TypeError>
     ensures ok { IfOk result (λ copies. copies.items ≡ values.now) }
-    ensures err { IsOkUnless result ScalarError.OutOfMemory }
+    ensures err { IsOkUnless result TypeError.OutOfMemory }
 {
     let mut copies = Vec::new(alloc);
     for value in values {

@@ -1,7 +1,7 @@
-//! Decimals' integers.
+//! The integers of decimals.
 
-/// The unscaled integer of a decimal, in one of six widths. The widest is its 32
-/// bytes in two's complement, the lowest first.
+/// The unscaled integer of a decimal, in one of six widths. `I256` is its 32 bytes
+/// in two's complement, the lowest first.
 #[derive(Clone, Copy, Debug, PartialEq, Eq)]
 pub enum DecimalValue {
     I8(i8),

@@ -12,7 +12,8 @@ use crate::value_ref::ValueRef;
 use crate::values::Values;
 use vx_types::{DType, MapDType, Nullability};
 
-/// What an extension is stored as, at every level; other types are themselves.
+/// The storage type of an extension, through extensions of extensions; any other type
+/// is itself.
 pub fn bare_dtype(dtype: &DType) -> &DType
     ensures { typ result.now ≡ bare (typ dtype.now) }
 {
@@ -22,7 +23,7 @@ pub fn bare_dtype(dtype: &DType) -> &DType
     }
 }
 
-// Whether a value, or a null, fits a type.
+// Whether a value fits a type; `None` is a null.
 #[cycle(fits)]
 #[tactic(auto, using(crate::proofs::LawsOfLists::decreasing))]
 pub(crate) fn fits(value: Option<&ScalarValue>, dtype: &DType) -> bool
@@ -51,7 +52,8 @@ pub(crate) fn fits(value: Option<&ScalarValue>, dtype: &DType) -> bool
 #[cycle(fits)]
 #[tactic(auto, using(crate::proofs::LawsOfLists::decreasing))]
 fn fit_parts(values: &Values, dtype: &DType) -> bool
-    ensures { IsTrue result ↔ FitParts (count (roses_of values.now)) (λ e. EachFits (roses_of values.now) e) (λ ts. FitBy (roses_of values.now) ts) (typ dtype.now) }
+    ensures { IsTrue result ↔ FitParts (count (roses_of values.now)) (λ e. EachFits (roses_of values.now) e)
+        (λ ts. FitBy (roses_of values.now) ts) (typ dtype.now) }
 {
     match dtype {
         DType::List(element, _) => each_fits(values.as_slice(), element.get()),
@@ -78,7 +80,7 @@ fn each_fits(values: &[Option<ScalarValue>], dtype: &DType) -> bool
     true
 }
 
-// Whether the values fit the types one by one.
+// Whether there are as many values as types, and each fits the type at its index.
 #[cycle(fits)]
 #[tactic(auto, using(crate::proofs::LawsOfLists::decreasing))]
 fn fit_by(values: &[Option<ScalarValue>], dtypes: &[DType]) -> bool
@@ -109,7 +111,7 @@ fn each_is_entry(values: &[Option<ScalarValue>], map: &MapDType) -> bool
     true
 }
 
-// Whether a value is an entry of a map: a tuple of a key and a value, not null.
+// Whether a value is an entry of a map: a tuple of a key and a value.
 #[cycle(fits)]
 #[tactic(auto, using(crate::proofs::LawsOfLists::decreasing))]
 fn is_entry(value: Option<&ScalarValue>, map: &MapDType) -> bool

@@ -1,12 +1,12 @@
-//! How exactly a statistic is told.
+//! How exactly a statistic is known.
 
-/// What is told of a statistic: its value, a bound on it, or nothing.
+/// What is known of a statistic: its value, a bound on it, or nothing.
 #[derive(Debug, Drop)]
 pub enum Precision<T> {
-    /// The value itself.
+    /// The value of the statistic.
     Exact(T),
-    /// A value that bounds it: at most the least, at least the greatest.
+    /// A bound: a lower one for `Min`, an upper one for `Max`.
     Inexact(T),
-    /// Nothing is told.
+    /// Nothing is known.
     Absent,
 }

@@ -8,15 +8,13 @@ ghost use Rattle.vx_types.specs.Value.{is_null};
 ghost use Rattle.vx_scalars.specs.Seen.{seen};
 
 use crate::copy::copied;
-use crate::error::ScalarError;
 use crate::fits::fits;
 use crate::value::ScalarValue;
 use std::alloc::Global;
 use std::marker::Model;
-use vx_types::{DType, or_memory};
+use vx_types::{DType, TypeError};
 
-/// A value with its type, which it fits. Contracts see the type and the value as
-/// trees.
+/// A value with a type that it fits. Contracts see both as trees.
 #[cycle(scalar)]
 #[derive(Debug)]
 pub struct Scalar {
@@ -24,7 +22,8 @@ pub struct Scalar {
     value: Option<ScalarValue>,
 }
 
-// A scalar falls by a call of this, wherever one falls, and not part by part.
+// By hand, so that code that drops a scalar calls this and does not repeat the drops
+// of its parts.
 impl Drop for Scalar {
     #[cycle(dropping)]
     fn drop(self) {
@@ -58,30 +57,32 @@ impl Model for Scalar {
 }
 
 impl Scalar {
-    /// The value as one of this type; `None` is a null. `BadScalar` exactly where
-    /// the value does not fit the type, at any level.
-    pub fn try_new(dtype: DType, value: Option<ScalarValue>) -> Result<Scalar, ScalarError>
+    /// The scalar of this type and value; `None` is a null. `BadScalar` exactly where
+    /// the value does not fit the type, as `validate` says.
+    pub fn try_new(dtype: DType, value: Option<ScalarValue>) -> Result<Scalar, TypeError>
         ensures ok { IfOk result (λ scalar. scalar ≡ record { dtype = typ dtype; value = seen value }) }
         ensures fits { IfOk result (λ _. Fits (seen value) (typ dtype)) }
-        ensures err { IfErr result (λ e. (e ≡ ScalarError.BadScalar) × (Fits (seen value) (typ dtype) → ⊥)) }
+        ensures err { IfErr result (λ e. (e ≡ TypeError.BadScalar) × (Fits (seen value) (typ dtype) → ⊥)) }
     {
         Scalar::validate(&dtype, value.as_ref())?;
         Ok(Scalar { dtype, value })
     }
 
-    /// Whether the value fits the type: null only where that may be null, a number
-    /// of the type's kind, as many parts as a list of fixed size or a structure
-    /// asks for, an entry of a map as a tuple of key and value, a member of a union
-    /// by one of its tags. An extension is fitted by what fits its storage, and a
-    /// decimal by one of any width. `BadScalar` exactly where it does not.
-    pub fn validate(dtype: &DType, value: Option<&ScalarValue>) -> Result<(), ScalarError>
+    /// Whether the value fits the type, at every level. A null fits a nullable type; a
+    /// number has the kind of the type; a fixed-size list has its size, and a structure
+    /// one value for each field; each entry of a map is a tuple of a key and a value;
+    /// the tag of a union is one of the type, and the value fits that member. A decimal
+    /// of any width fits a decimal type, and what fits its storage fits an extension.
+    /// `BadScalar` exactly where the value does not fit.
+    pub fn validate(dtype: &DType, value: Option<&ScalarValue>) -> Result<(), TypeError>
         ensures ok { IfOk result (λ _. Fits (seen (option_copied value.entry)) (typ dtype.now)) }
-        ensures err { IfErr result (λ e. (e ≡ ScalarError.BadScalar) × (Fits (seen (option_copied value.entry)) (typ dtype.now) → ⊥)) }
+        ensures err { IfErr result (λ e. (e ≡ TypeError.BadScalar)
+            × (Fits (seen (option_copied value.entry)) (typ dtype.now) → ⊥)) }
     {
         if fits(value, dtype) {
             return Ok(());
         }
-        Err(ScalarError::BadScalar)
+        Err(TypeError::BadScalar)
     }
 
     /// The type.
@@ -106,7 +107,7 @@ impl Scalar {
         self.value.is_none()
     }
 
-    /// The type and the value, handed out.
+    /// The type and the value, without a copy.
     pub fn into_parts(self) -> (DType, Option<ScalarValue>)
         ensures dtype { typ result.0 ≡ self.dtype }
         ensures value { seen result.1 ≡ self.value }
@@ -117,19 +118,20 @@ impl Scalar {
 
     /// An equal scalar.
     #[cycle(copy)]
-    pub fn clone(&self, alloc: Global) -> Result<Scalar, ScalarError>
+    pub fn clone(&self, alloc: Global) -> Result<Scalar, TypeError>
         ensures ok { IfOk result (λ scalar. scalar ≡ self.now) }
-        ensures err { IsOkUnless result ScalarError.OutOfMemory }
+        ensures err { IsOkUnless result TypeError.OutOfMemory }
     {
-        let dtype = or_memory(self.dtype.clone(alloc))?;
+        let dtype = self.dtype.clone(alloc)?;
         let value = copied(self.value(), alloc)?;
         Ok(Scalar { dtype, value })
     }
 
-    // Whether the scalar, as what a variant holds, fits a type that is no extension:
-    // where that is of variants, since the scalar fits its own.
+    // Whether a variant of the scalar fits a type that is no extension. The scalar
+    // fits its own type, so it does for every type of variants.
     pub(crate) fn fits_variant(&self, dtype: &DType) -> bool
-        ensures { IsTrue result ↔ (IsVariant (typ dtype.now) × FitBy (more self.now.value end) (more self.now.dtype end)) }
+        ensures { IsTrue result ↔ (IsVariant (typ dtype.now)
+            × FitBy (more self.now.value end) (more self.now.dtype end)) }
     {
         matches!((&self.value, dtype), (_, DType::Variant(_)))
     }

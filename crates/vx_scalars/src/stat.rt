@@ -1,13 +1,12 @@
-//! Statistics by name.
+//! The nine statistics.
 
 ghost use Rattle.std.specs.Prelude.{◌≡◌, IfOk, IsOkUnless, option_map, min, ◌≤◌, ◌+◌};
 ghost use Rattle.vx_types.specs.Seen.{typ};
 ghost use Rattle.vx_scalars.specs.StatTypes.{all_stats, stat_index, stat_type, ordered, sum_kind, sum_type};
 
-use crate::error::ScalarError;
 use crate::fits::bare_dtype;
 use std::alloc::Global;
-use vx_types::{DType, DecimalDType, Nullability, PType, or_memory};
+use vx_types::{DType, DecimalDType, Nullability, PType, TypeError};
 
 /// A statistic of an array's rows.
 #[derive(Clone, Copy, Debug, PartialEq, Eq)]
@@ -18,22 +17,22 @@ pub enum Stat {
     Max,
     /// The sum of the values.
     Sum,
-    /// Whether no value is below the one before it.
+    /// Whether no value is less than the one before it.
     IsSorted,
-    /// Whether each value is above the one before it.
+    /// Whether each value is greater than the one before it.
     IsStrictSorted,
     /// Whether all rows are equal.
     IsConstant,
-    /// How many rows are null.
+    /// The number of null rows.
     NullCount,
-    /// How many bytes the array takes where it is not compressed.
+    /// The size of the uncompressed array in bytes.
     UncompressedSizeInBytes,
-    /// How many values are NaN.
+    /// The number of NaN values.
     NaNCount,
 }
 
 impl Stat {
-    /// The nine statistics, each once, in the order in which a table has them.
+    /// The nine statistics, in the order of their declaration.
     pub fn all() -> [Stat; 9]
         ensures { result ≡ all_stats }
     {
@@ -50,14 +49,16 @@ impl Stat {
         ]
     }
 
-    /// The type of this statistic for arrays of a type; `None` where such arrays
-    /// have none. Least and greatest are of the array's own type, or its storage's,
-    /// where that is of flags, numbers, decimals, texts or bytes. A sum is nullable
-    /// and of the widest numbers of its sort, a sum of decimals has ten digits more,
-    /// 76 at most. The others are flags and counts, not nullable.
-    pub fn dtype(&self, alloc: Global, dtype: &DType) -> Result<Option<DType>, ScalarError>
+    /// The type of this statistic of arrays of a type (this project's rules); `None`
+    /// where such arrays do not have it.
+    ///
+    /// `Min` and `Max` have the array's type, of an extension that of its storage:
+    /// flags, numbers, decimals, texts and bytes alone. `Sum` is nullable: of numbers
+    /// the widest kind of the same sort, of flags `U64`, of decimals ten digits more,
+    /// at most 76. The flags are `Bool` and the counts `U64`, neither nullable.
+    pub fn dtype(&self, alloc: Global, dtype: &DType) -> Result<Option<DType>, TypeError>
         ensures ok { IfOk result (λ d. option_map typ d ≡ stat_type self.now (typ dtype.now)) }
-        ensures err { IsOkUnless result ScalarError.OutOfMemory }
+        ensures err { IsOkUnless result TypeError.OutOfMemory }
     {
         match self {
             Stat::Min | Stat::Max => ordered_dtype(alloc, bare_dtype(dtype)),
@@ -71,7 +72,7 @@ impl Stat {
         }
     }
 
-    // The place of this statistic among the nine.
+    // The index of this statistic in `all`.
     pub(crate) fn index(self) -> u8
         ensures { result ≡ stat_index self }
     {
@@ -89,22 +90,22 @@ impl Stat {
     }
 }
 
-// A type that has a least and a greatest value, where it has.
-fn ordered_dtype(alloc: Global, dtype: &DType) -> Result<Option<DType>, ScalarError>
+// The type, where its rows have a least and a greatest value.
+fn ordered_dtype(alloc: Global, dtype: &DType) -> Result<Option<DType>, TypeError>
     ensures ok { IfOk result (λ d. option_map typ d ≡ ordered (typ dtype.now)) }
-    ensures err { IsOkUnless result ScalarError.OutOfMemory }
+    ensures err { IsOkUnless result TypeError.OutOfMemory }
 {
     match dtype {
         DType::Bool(_)
         | DType::Primitive(_, _)
         | DType::Decimal(_, _)
         | DType::Utf8(_)
-        | DType::Binary(_) => Ok(Some(or_memory(dtype.clone(alloc))?)),
+        | DType::Binary(_) => Ok(Some(dtype.clone(alloc)?)),
         _ => Ok(None),
     }
 }
 
-// The type of the sum of rows of a type, where they have one.
+// The type of the sum of rows of a type; `None` where they have no sum.
 pub(crate) fn sum_dtype(dtype: &DType) -> Option<DType>
     ensures { option_map typ result ≡ sum_type (typ dtype.now) }
 {
@@ -123,7 +124,7 @@ pub(crate) fn sum_dtype(dtype: &DType) -> Option<DType>
     }
 }
 
-// Ten digits more, 76 at most.
+// A precision of ten digits more, at most 76.
 fn wider(precision: u8) -> u8
     requires { precision ≤ 76 }
     ensures { result ≡ min 76 (precision + 10) }
@@ -131,7 +132,7 @@ fn wider(precision: u8) -> u8
     if precision > 66 { 76 } else { precision + 10 }
 }
 
-// The widest kind of the same sort.
+// The widest kind of the same sort: unsigned, signed or float.
 fn kind_of_sum(kind: PType) -> PType
     ensures { result ≡ sum_kind kind }
 {

@@ -1,4 +1,4 @@
-//! Whether statistics fit a type.
+//! Whether statistics have the types that they have for a type of arrays.
 
 ghost use Rattle.std.specs.Prelude.{◌≡◌, ◌↔◌, IfOk, IfErr, IsTrue};
 ghost use Rattle.vx_types.specs.Seen.{typ};
@@ -6,29 +6,28 @@ ghost use Rattle.vx_scalars.specs.Seen.{value_of};
 ghost use Rattle.vx_scalars.specs.StatTypes.{stat_type, ordered};
 ghost use Rattle.vx_scalars.specs.Stats.{told_at, IsOfType, FitsTold, FitStats};
 
-use crate::error::ScalarError;
 use crate::fits::{bare_dtype, fits};
 use crate::precision::Precision;
 use crate::stat::{Stat, sum_dtype};
 use crate::stats_set::StatsSet;
 use crate::value::ScalarValue;
-use vx_types::{DType, Nullability, PType};
+use vx_types::{DType, Nullability, PType, TypeError};
 
 impl StatsSet {
-    /// Whether each statistic that is told is a value of its type, for arrays of a type.
-    /// `BadScalar` exactly where one is not.
-    pub fn validate(&self, dtype: &DType) -> Result<(), ScalarError>
+    /// Whether each statistic of the set is a value of the type that it has for arrays of
+    /// this type, and not null. `BadScalar` exactly where one is not.
+    pub fn validate(&self, dtype: &DType) -> Result<(), TypeError>
         ensures ok { IfOk result (λ _. FitStats (typ dtype.now) self.now) }
-        ensures err { IfErr result (λ e. (e ≡ ScalarError.BadScalar) × (FitStats (typ dtype.now) self.now → ⊥)) }
+        ensures err { IfErr result (λ e. (e ≡ TypeError.BadScalar) × (FitStats (typ dtype.now) self.now → ⊥)) }
     {
         if bounds_fit(self, dtype) && flags_fit(self, dtype) && counts_fit(self, dtype) {
             return Ok(());
         }
-        Err(ScalarError::BadScalar)
+        Err(TypeError::BadScalar)
     }
 }
 
-// Whether the least and the greatest value, and the sum, are of their types.
+// Whether the least and the greatest value and the sum have their types.
 fn bounds_fit(stats: &StatsSet, dtype: &DType) -> bool
     ensures { IsTrue result ↔ (FitsTold (stat_type Stat.Min (typ dtype.now)) stats.now.least
         × FitsTold (stat_type Stat.Max (typ dtype.now)) stats.now.greatest
@@ -39,7 +38,7 @@ fn bounds_fit(stats: &StatsSet, dtype: &DType) -> bool
         && is_fit(stats, Stat::Sum, dtype)
 }
 
-// Whether the flags are flags.
+// Whether the flags have their type.
 fn flags_fit(stats: &StatsSet, dtype: &DType) -> bool
     ensures { IsTrue result ↔ (FitsTold (stat_type Stat.IsSorted (typ dtype.now)) stats.now.is_sorted
         × FitsTold (stat_type Stat.IsStrictSorted (typ dtype.now)) stats.now.is_strict_sorted
@@ -50,7 +49,7 @@ fn flags_fit(stats: &StatsSet, dtype: &DType) -> bool
         && is_fit(stats, Stat::IsConstant, dtype)
 }
 
-// Whether the counts are counts.
+// Whether the counts have their type.
 fn counts_fit(stats: &StatsSet, dtype: &DType) -> bool
     ensures { IsTrue result ↔ (FitsTold (stat_type Stat.NullCount (typ dtype.now)) stats.now.null_count
         × FitsTold (stat_type Stat.UncompressedSizeInBytes (typ dtype.now)) stats.now.uncompressed_size
@@ -61,7 +60,7 @@ fn counts_fit(stats: &StatsSet, dtype: &DType) -> bool
         && is_fit(stats, Stat::NaNCount, dtype)
 }
 
-// Whether what is told of a statistic is of its type.
+// Whether a statistic is absent or has its type.
 fn is_fit(stats: &StatsSet, stat: Stat, dtype: &DType) -> bool
     ensures { IsTrue result ↔ FitsTold (stat_type stat (typ dtype.now)) (told_at stats.now stat) }
 {
@@ -71,7 +70,7 @@ fn is_fit(stats: &StatsSet, stat: Stat, dtype: &DType) -> bool
     }
 }
 
-// Whether a value is of the type of a statistic.
+// Whether a value has the type of a statistic.
 fn is_of_type(stat: Stat, value: &ScalarValue, dtype: &DType) -> bool
     ensures { IsTrue result ↔ IsOfType (stat_type stat (typ dtype.now)) (value_of value.now) }
 {

@@ -4,19 +4,20 @@ ghost use Rattle.std.specs.Prelude.{◌≡◌, ◌==◌, false, IfOk, OnOk, OnEr
 ghost use Rattle.std.specs.Slice.Iter.{iter_rest};
 ghost use Rattle.vx_types.specs.Value.{Value};
 ghost use Rattle.vx_scalars.specs.Places.{IsPlace, Changes, borrowed, absence};
-ghost use Rattle.vx_scalars.specs.Stats.{no_stats, told, told_at, with_told, told_in, IsNowhere, IsTold, AreEntries, ListsEach};
+ghost use Rattle.vx_scalars.specs.Stats.{no_stats, told, told_at, with_told, told_in};
+ghost use Rattle.vx_scalars.specs.Stats.{IsNowhere, IsTold, AreEntries, ListsEach};
 ghost use Rattle.vx_scalars.specs.declared.precision.Precision.TheVariants.{Absent};
 
-use crate::error::ScalarError;
 use crate::precision::Precision;
 use crate::stat::Stat;
 use crate::value::ScalarValue;
 use std::alloc::Global;
 use std::marker::Model;
 use std::slice::Iter;
+use vx_types::TypeError;
 
-/// What is told of an array's rows: for each statistic a value, exact or as a
-/// bound, or nothing. Contracts see what is told of each of the nine.
+/// The statistics of an array's rows, each exact, a bound, or absent. Contracts see
+/// what is known of each of the nine.
 #[derive(Debug, Drop)]
 pub struct StatsSet {
     entries: Vec<(Stat, Precision<ScalarValue>)>,
@@ -37,7 +38,7 @@ impl Model for StatsSet {
 }
 
 impl StatsSet {
-    /// Nothing is told; more is stored by this allocator.
+    /// A set without statistics; those that are set are allocated by `alloc`.
     pub fn new(alloc: Global) -> StatsSet
         ensures { result ≡ no_stats }
     {
@@ -46,7 +47,7 @@ impl StatsSet {
         }
     }
 
-    /// What is told of a statistic.
+    /// What is known of a statistic.
     pub fn get(&self, stat: Stat) -> Precision<&ScalarValue>
         ensures { told (borrowed result) ≡ told_at self.now stat }
     {
@@ -56,12 +57,12 @@ impl StatsSet {
         }
     }
 
-    /// Another thing told of a statistic; `Absent` takes out what was told. Where
-    /// there is no memory for it, the set stays as it was, and the value is dropped.
-    pub fn set(&mut self, stat: Stat, value: Precision<ScalarValue>) -> Result<(), ScalarError>
+    /// Sets a statistic; `Absent` removes it. On `OutOfMemory` the set is unchanged, and
+    /// the value is dropped.
+    pub fn set(&mut self, stat: Stat, value: Precision<ScalarValue>) -> Result<(), TypeError>
         ensures ok { OnOk result (self.new ≡ with_told self.old stat (told value)) }
         ensures unchanged { OnErr result (self.new ≡ self.old) }
-        ensures err { IsOkUnless result ScalarError.OutOfMemory }
+        ensures err { IsOkUnless result TypeError.OutOfMemory }
     {
         let absent = is_absent(&value);
         match place_in(self.entries.as_slice(), stat) {
@@ -82,7 +83,7 @@ impl StatsSet {
         }
     }
 
-    /// The statistics of which something is told, each once, with what is told.
+    /// The statistics that are not absent, each once, with what is known of them.
     pub fn iter(&self) -> Iter<'_, (Stat, Precision<ScalarValue>)>
         ensures { ListsEach self.now (iter_rest result) }
     {
@@ -90,16 +91,16 @@ impl StatsSet {
     }
 
     /// An equal set.
-    pub fn clone(&self, alloc: Global) -> Result<StatsSet, ScalarError>
+    pub fn clone(&self, alloc: Global) -> Result<StatsSet, TypeError>
         ensures ok { IfOk result (λ set. set ≡ self.now) }
-        ensures err { IsOkUnless result ScalarError.OutOfMemory }
+        ensures err { IsOkUnless result TypeError.OutOfMemory }
     {
         let entries = copy_entries(self.entries.as_slice(), alloc)?;
         Ok(StatsSet { entries })
     }
 }
 
-// What is told, with its value borrowed.
+// The same precision, with its value borrowed.
 fn as_borrowed(value: &Precision<ScalarValue>) -> Precision<&ScalarValue>
     ensures { borrowed result ≡ value.now }
 {
@@ -110,7 +111,7 @@ fn as_borrowed(value: &Precision<ScalarValue>) -> Precision<&ScalarValue>
     }
 }
 
-// Whether nothing is told.
+// Whether the precision is `Absent`.
 fn is_absent(value: &Precision<ScalarValue>) -> bool
     ensures absent { result ≡ absence value.now }
     ensures told { result ≡ false → IsTold (told value.now) }
@@ -121,7 +122,7 @@ fn is_absent(value: &Precision<ScalarValue>) -> bool
     }
 }
 
-// The place of the entry of a statistic.
+// The index of the entry of a statistic; `None` if it has none.
 #[tactic(auto, using(crate::proofs::Entries::placing))]
 fn place_in(entries: &[(Stat, Precision<ScalarValue>)], stat: Stat) -> Option<usize>
     ensures { MatchOption result (IsNowhere stat entries.now) (λ i. IsPlace stat i entries.now) }
@@ -134,7 +135,7 @@ fn place_in(entries: &[(Stat, Precision<ScalarValue>)], stat: Stat) -> Option<us
     None
 }
 
-// Takes the entry of a statistic out of its place.
+// Removes the entry of a statistic from its index.
 fn take_out(entries: &mut Vec<(Stat, Precision<ScalarValue>)>, stat: Stat, place: usize)
     requires place { IsPlace stat place entries.old.items }
     requires before { AreEntries entries.old.items }
@@ -144,7 +145,7 @@ fn take_out(entries: &mut Vec<(Stat, Precision<ScalarValue>)>, stat: Stat, place
     let _ = entries.remove(place);
 }
 
-// Puts what is told of a statistic in the place of what was.
+// Replaces the entry of a statistic at its index.
 fn replace(
     entries: &mut Vec<(Stat, Precision<ScalarValue>)>,
     stat: Stat,
@@ -160,19 +161,19 @@ fn replace(
     entries[place] = (stat, value);
 }
 
-// Adds what is told of a statistic that has no entry.
+// Appends an entry for a statistic that has none.
 fn add(
     entries: &mut Vec<(Stat, Precision<ScalarValue>)>,
     stat: Stat,
     value: Precision<ScalarValue>,
-) -> Result<(), ScalarError>
+) -> Result<(), TypeError>
     requires nowhere { IsNowhere stat entries.old.items }
     requires before { AreEntries entries.old.items }
     requires told { IsTold (told value) }
     ensures changes { OnOk result (Changes stat (told value) entries.old.items entries.new.items) }
     ensures after { AreEntries entries.new.items }
     ensures unchanged { OnErr result (entries.new.items ≡ entries.old.items) }
-    ensures err { IsOkUnless result ScalarError.OutOfMemory }
+    ensures err { IsOkUnless result TypeError.OutOfMemory }
 {
     entries.push((stat, value))?;
     Ok(())
@@ -182,9 +183,9 @@ fn add(
 fn copy_entries(
     entries: &[(Stat, Precision<ScalarValue>)],
     alloc: Global,
-) -> Result<Vec<(Stat, Precision<ScalarValue>)>, ScalarError>
+) -> Result<Vec<(Stat, Precision<ScalarValue>)>, TypeError>
     ensures ok { IfOk result (λ copies. copies.items ≡ entries.now) }
-    ensures err { IsOkUnless result ScalarError.OutOfMemory }
+    ensures err { IsOkUnless result TypeError.OutOfMemory }
 {
     let mut copies = Vec::new(alloc);
     for i in 0..entries.len() {
@@ -197,9 +198,9 @@ fn copy_entries(
 fn copy_entry(
     entry: &(Stat, Precision<ScalarValue>),
     alloc: Global,
-) -> Result<(Stat, Precision<ScalarValue>), ScalarError>
+) -> Result<(Stat, Precision<ScalarValue>), TypeError>
     ensures ok { IfOk result (λ copy. copy ≡ entry.now) }
-    ensures err { IsOkUnless result ScalarError.OutOfMemory }
+    ensures err { IsOkUnless result TypeError.OutOfMemory }
 {
     let stat = entry.0;
     match &entry.1 {

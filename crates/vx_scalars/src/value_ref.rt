@@ -3,12 +3,12 @@
 ghost use Rattle.std.specs.Prelude.{◌≡◌, IfOk, IsOkUnless, option_copied};
 ghost use Rattle.vx_scalars.specs.Seen.{seen};
 
-use crate::error::ScalarError;
 use crate::value::ScalarValue;
 use std::alloc::Global;
 use std::marker::Model;
+use vx_types::TypeError;
 
-/// The value of a union's member, which may be null. Contracts see its tree.
+/// The value of a union's member, boxed, or null. Contracts see its tree.
 #[cycle(scalar)]
 #[derive(Debug, Drop)]
 pub struct ValueRef {
@@ -36,10 +36,10 @@ impl Model for ValueRef {
 }
 
 impl ValueRef {
-    /// This value, kept after a pointer; a null takes no memory.
-    pub fn new(alloc: Global, value: Option<ScalarValue>) -> Result<ValueRef, ScalarError>
+    /// This value, boxed; `None` is a null, which allocates nothing.
+    pub fn new(alloc: Global, value: Option<ScalarValue>) -> Result<ValueRef, TypeError>
         ensures ok { IfOk result (λ place. place ≡ seen value) }
-        ensures err { IsOkUnless result ScalarError.OutOfMemory }
+        ensures err { IsOkUnless result TypeError.OutOfMemory }
     {
         match value {
             None => Ok(ValueRef { value: None }),
@@ -62,9 +62,9 @@ impl ValueRef {
 
     /// An equal value.
     #[cycle(copy)]
-    pub fn clone(&self, alloc: Global) -> Result<ValueRef, ScalarError>
+    pub fn clone(&self, alloc: Global) -> Result<ValueRef, TypeError>
         ensures ok { IfOk result (λ place. place ≡ self.now) }
-        ensures err { IsOkUnless result ScalarError.OutOfMemory }
+        ensures err { IsOkUnless result TypeError.OutOfMemory }
     {
         match self.get() {
             None => Ok(ValueRef { value: None }),

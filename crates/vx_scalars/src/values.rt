@@ -4,10 +4,10 @@ ghost use Rattle.std.specs.Prelude.{◌≡◌, ◌==◌, [], ◌∷◌, ◌++◌
 ghost use Rattle.vx_scalars.specs.Seen.{seen, all_seen};
 
 use crate::copy::copy_all;
-use crate::error::ScalarError;
 use crate::value::ScalarValue;
 use std::alloc::Global;
 use std::marker::Model;
+use vx_types::TypeError;
 
 /// The values of a tuple, in order, each of which may be null. Contracts see the
 /// list of their trees.
@@ -40,7 +40,7 @@ impl Model for Values {
 }
 
 impl Values {
-    /// No value; more are stored by this allocator.
+    /// An empty list; values that are pushed are allocated by `alloc`.
     pub fn new(alloc: Global) -> Values
         ensures { result ≡ [] }
     {
@@ -49,14 +49,14 @@ impl Values {
         }
     }
 
-    /// How many values there are.
+    /// The number of values.
     pub fn len(&self) -> usize
         ensures { result ≡ length self.now }
     {
         self.items.len()
     }
 
-    /// Whether there is no value.
+    /// Whether the list is empty.
     pub fn is_empty(&self) -> bool
         ensures { result ≡ (length self.now == 0) }
     {
@@ -70,12 +70,12 @@ impl Values {
         self.items.as_slice()
     }
 
-    /// One more value at the end, or a null. Where there is no memory for it, the
-    /// list stays as it was, and the value is dropped.
-    pub fn push(&mut self, value: Option<ScalarValue>) -> Result<(), ScalarError>
+    /// Appends a value; `None` is a null. On `OutOfMemory` the list is unchanged, and
+    /// the value is dropped.
+    pub fn push(&mut self, value: Option<ScalarValue>) -> Result<(), TypeError>
         ensures ok { OnOk result (self.new ≡ self.old ++ seen value ∷ []) }
         ensures unchanged { OnErr result (self.new ≡ self.old) }
-        ensures err { IsOkUnless result ScalarError.OutOfMemory }
+        ensures err { IsOkUnless result TypeError.OutOfMemory }
     {
         self.items.push(value)?;
         Ok(())
@@ -83,9 +83,9 @@ impl Values {
 
     /// An equal list.
     #[cycle(copy)]
-    pub fn clone(&self, alloc: Global) -> Result<Values, ScalarError>
+    pub fn clone(&self, alloc: Global) -> Result<Values, TypeError>
         ensures ok { IfOk result (λ values. values ≡ self.now) }
-        ensures err { IsOkUnless result ScalarError.OutOfMemory }
+        ensures err { IsOkUnless result TypeError.OutOfMemory }
     {
         let items = copy_all(self.as_slice(), alloc)?;
         Ok(Values { items })

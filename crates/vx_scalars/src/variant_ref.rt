@@ -2,12 +2,12 @@
 
 ghost use Rattle.std.specs.Prelude.{◌≡◌, IfOk, IsOkUnless};
 
-use crate::error::ScalarError;
 use crate::scalar::Scalar;
 use std::alloc::Global;
 use std::marker::Model;
+use vx_types::TypeError;
 
-/// The scalar of a variant. Contracts see its type and the tree of its value.
+/// The scalar of a variant, boxed. Contracts see its type and the tree of its value.
 #[cycle(scalar)]
 #[derive(Debug, Drop)]
 pub struct VariantRef {
@@ -31,10 +31,10 @@ impl Model for VariantRef {
 }
 
 impl VariantRef {
-    /// This scalar, kept after a pointer.
-    pub fn new(alloc: Global, scalar: Scalar) -> Result<VariantRef, ScalarError>
+    /// This scalar, boxed.
+    pub fn new(alloc: Global, scalar: Scalar) -> Result<VariantRef, TypeError>
         ensures ok { IfOk result (λ variant. variant ≡ scalar) }
-        ensures err { IsOkUnless result ScalarError.OutOfMemory }
+        ensures err { IsOkUnless result TypeError.OutOfMemory }
     {
         let scalar = Box::new(alloc, scalar)?;
         Ok(VariantRef { scalar })
@@ -49,9 +49,9 @@ impl VariantRef {
 
     /// An equal scalar.
     #[cycle(copy)]
-    pub fn clone(&self, alloc: Global) -> Result<VariantRef, ScalarError>
+    pub fn clone(&self, alloc: Global) -> Result<VariantRef, TypeError>
         ensures ok { IfOk result (λ variant. variant ≡ self.now) }
-        ensures err { IsOkUnless result ScalarError.OutOfMemory }
+        ensures err { IsOkUnless result TypeError.OutOfMemory }
     {
         VariantRef::new(alloc, self.get().clone(alloc)?)
     }

@@ -4,7 +4,7 @@ use std::alloc::Global;
 use vx_arrays::{Array, ArrayError, PrimitiveArray};
 use vx_buffer::{Alignment, BufferHandle, ByteBuffer, ByteBuffers};
 use vx_registry::{ArrayContext, ArraySession, ReadContext, VortexSession};
-use vx_scalars::{Precision, ScalarError, ScalarValue, Stat, StatsSet};
+use vx_scalars::{Precision, ScalarValue, Stat, StatsSet};
 use vx_serde::{ArrayExt, Recoded, SerializeOptions, SerializedArray, WireError, recode};
 use vx_type_wire::ExtSession;
 use vx_types::{DType, Id, Ids, Names, Nullability, PType, PValue, TypeError};
@@ -34,14 +34,14 @@ fn precision_of(told: Told) -> Precision<ScalarValue> {
 }
 
 // A set that tells this of one statistic.
-fn set_of(alloc: Global, stat: Stat, told: Told) -> Result<StatsSet, ScalarError> {
+fn set_of(alloc: Global, stat: Stat, told: Told) -> Result<StatsSet, TypeError> {
     let mut set = StatsSet::new(alloc);
     set.set(stat, precision_of(told))?;
     Ok(set)
 }
 
 // Tells an array this of one statistic alone.
-fn tell(alloc: Global, array: &mut Array, stat: Stat, told: Told) -> Result<(), ScalarError> {
+fn tell(alloc: Global, array: &mut Array, stat: Stat, told: Told) -> Result<(), TypeError> {
     let set = set_of(alloc, stat, told)?;
     array.set_all(set)
 }

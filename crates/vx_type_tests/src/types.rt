@@ -1,4 +1,4 @@
-//! Types of each kind, and the refusals of their parts.
+//! Types of each kind, and the errors on their parts.
 
 use std::alloc::Global;
 use vx_types::{
@@ -45,7 +45,7 @@ fn map(alloc: Global) -> Result<MapDType, TypeError> {
     MapDType::new(alloc, key, DType::Binary(Nullability::Nullable), true)
 }
 
-// A type of each kind but nulls, by number from 0.
+// A type of each kind but `Null`, by number from 0.
 fn sample(alloc: Global, which: usize, n: Nullability) -> Result<DType, TypeError> {
     match which {
         0 => Ok(DType::Bool(n)),
@@ -80,7 +80,7 @@ fn is_copy(alloc: Global, dtype: &DType) -> Result<bool, TypeError> {
     Ok(copy == *dtype)
 }
 
-// The same of the type of this number.
+// The same for the type of this number.
 fn is_copied(alloc: Global, which: usize) -> Result<bool, TypeError> {
     let plain = sample(alloc, which, Nullability::NonNullable)?;
     is_copy(alloc, &plain)
@@ -92,7 +92,7 @@ fn made_nullable(alloc: Global, which: usize) -> Result<DType, TypeError> {
     plain.with_nullability(alloc, Nullability::Nullable)
 }
 
-// Whether the type of this number made nullable is that of this nullability.
+// Whether the type of this number, made nullable, equals the one of this nullability.
 fn is_made_nullable(alloc: Global, which: usize, n: Nullability) -> Result<bool, TypeError> {
     let made = made_nullable(alloc, which)?;
     is_sample(alloc, &made, which, n)
@@ -137,7 +137,7 @@ fn each_kind_has_its_nullability(rt: HostRuntime) {
     }
 }
 
-// Whether a width of decimals has this code and so many bytes, and is found by its code.
+// Whether a width of decimals has this code and this width in bytes, and is found by its code.
 fn is_numbered(kind: DecimalType, code: u8, width: usize) -> bool {
     kind.code() == code
         && kind.byte_width() == width
@@ -162,7 +162,7 @@ fn widths_of_decimals_have_codes(rt: HostRuntime) {
     assert!(rt; DecimalType::from_code(6).is_none());
 }
 
-// Whether decimals of so many digits are a type, or the refusal.
+// Whether a decimal type keeps this precision, or the error.
 fn decimal(precision: u8) -> Result<bool, TypeError> {
     let decimal = DecimalDType::try_new(precision, -3)?;
     Ok(decimal.precision() == precision && decimal.scale() == -3)
@@ -178,7 +178,7 @@ fn decimals_have_1_to_76_digits(rt: HostRuntime) {
     assert!(rt; decimal(255) == refused);
 }
 
-// Why two names, this many types and these tags are no union.
+// The error of a union of two names, `count` types and these tags.
 fn union_refusal(alloc: Global, count: usize, tags: &[u8]) -> Result<TypeError, TypeError> {
     let words = two_names(alloc)?;
     let types = numbers(alloc, count)?;
@@ -189,7 +189,7 @@ fn union_refusal(alloc: Global, count: usize, tags: &[u8]) -> Result<TypeError, 
     }
 }
 
-// Why two names and this many types are no structure.
+// The error of a structure of two names and `count` types.
 fn structure_refusal(alloc: Global, count: usize) -> Result<TypeError, TypeError> {
     let words = two_names(alloc)?;
     match StructFields::try_new(words, numbers(alloc, count)?) {
@@ -222,7 +222,7 @@ fn tags_name_members(rt: HostRuntime) {
     assert!(rt; member(alloc, 5) == Ok(None));
 }
 
-// The structure of an entry's fields by these two names.
+// The type of an entry with fields of these two names.
 fn entry(alloc: Global, key: &str, value: &str) -> Result<DType, TypeError> {
     let mut words = Names::new(alloc);
     words.push(Name::new(alloc, key)?)?;
@@ -245,13 +245,13 @@ fn entries(alloc: Global) -> Result<DType, TypeError> {
     map.entries_dtype(alloc)
 }
 
-// Whether a type is the structure of these two names.
+// Whether a type is that of entries with fields of these two names.
 fn is_entry(alloc: Global, dtype: &DType, key: &str, value: &str) -> Result<bool, TypeError> {
     let wanted = entry(alloc, key, value)?;
     Ok(*dtype == wanted)
 }
 
-// Whether the type of a map's entries is.
+// Whether the type of the sample map's entries has fields of these two names.
 fn are_entries(alloc: Global, key: &str, value: &str) -> Result<bool, TypeError> {
     let entries = entries(alloc)?;
     is_entry(alloc, &entries, key, value)
@@ -264,13 +264,13 @@ fn entries_have_a_key_and_a_value(rt: HostRuntime) {
     assert!(rt; are_entries(alloc, "value", "key") == Ok(false));
 }
 
-// Whether a type is the extension of one byte of metadata.
+// Whether a type is the extension with this byte of metadata.
 fn is_extension(alloc: Global, dtype: &DType, metadata: u8) -> Result<bool, TypeError> {
     let wanted = extension(alloc, metadata, Nullability::Nullable)?;
     Ok(*dtype == wanted)
 }
 
-// Whether extensions of one byte of metadata each are equal.
+// Whether the extensions with these bytes of metadata are equal.
 fn are_equal(alloc: Global, a: u8, b: u8) -> Result<bool, TypeError> {
     let one = extension(alloc, a, Nullability::Nullable)?;
     is_extension(alloc, &one, b)
@@ -283,7 +283,7 @@ fn metadata_tell_extensions_apart(rt: HostRuntime) {
     assert!(rt; are_equal(alloc, 1, 2) == Ok(false));
 }
 
-// Whether a list of structures has at most this many levels.
+// Whether a list of structures is within a limit of levels.
 fn is_within(alloc: Global, limit: u32) -> Result<bool, TypeError> {
     let deep = structure(alloc, Nullability::Nullable)?;
     let list = DType::List(TypeRef::new(alloc, deep)?, Nullability::Nullable);
@@ -300,7 +300,7 @@ fn levels_are_counted_to_a_limit(rt: HostRuntime) {
     assert!(rt; is_within(alloc, u32::MAX) == Ok(true));
 }
 
-// Whether a refusal has this text.
+// Whether an error has this text.
 fn is_text(alloc: Global, error: TypeError, text: &str) -> bool {
     match format!(in alloc; "{error}") {
         Ok(printed) => printed.as_str() == text,
@@ -308,7 +308,7 @@ fn is_text(alloc: Global, error: TypeError, text: &str) -> bool {
     }
 }
 
-const TEXTS: [(TypeError, &str); 4] = [
+const TEXTS: [(TypeError, &str); 5] = [
     (TypeError::OutOfMemory, "out of memory"),
     (
         TypeError::BadDecimal,
@@ -319,6 +319,7 @@ const TEXTS: [(TypeError, &str); 4] = [
         "the numbers of names, types and tags differ",
     ),
     (TypeError::DuplicateTag, "a union's tag stands twice"),
+    (TypeError::BadScalar, "the value does not fit the type"),
 ];
 
 #[test]

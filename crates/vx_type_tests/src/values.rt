@@ -1,4 +1,4 @@
-//! Texts, identifiers and kinds of numbers: values from outside, and calls that take memory.
+//! Texts, bytes, identifiers and kinds of numbers: published codes, and copies.
 
 use std::alloc::Global;
 use std::collections::HashMap;
@@ -36,7 +36,7 @@ fn numbers_have_widths_and_codes(rt: HostRuntime) {
     assert!(rt; PValue::F16(0x8000).ptype() == PType::F16);
 }
 
-// The nullability of the type of nulls where it is to be never null.
+// The nullability of `Null` after a change to non-nullable.
 fn nulls_nullability(alloc: Global) -> Result<Nullability, TypeError> {
     let null = DType::Null.with_nullability(alloc, Nullability::NonNullable)?;
     Ok(null.nullability())
@@ -61,7 +61,7 @@ fn bytes_are_copied(alloc: Global, bytes: &[u8]) -> Result<bool, TypeError> {
     Ok(copy == blob && copy.as_slice() == bytes && copy.len() == bytes.len())
 }
 
-// Whether bytes that are handed over are the same again.
+// Whether bytes come back out unchanged.
 fn are_handed_over(alloc: Global) -> Result<bool, TypeError> {
     let bytes = Blob::copy_from(alloc, &[7])?.into_vec();
     let blob = Blob::new(bytes);
@@ -76,7 +76,7 @@ fn texts_and_bytes_are_kept(rt: HostRuntime) {
     assert!(rt; are_handed_over(alloc) == Ok(true));
 }
 
-// Two identifiers in their order.
+// A list of two identifiers.
 fn two_ids(alloc: Global) -> Result<Ids, TypeError> {
     let mut ids = Ids::new(alloc);
     ids.push(Id::new(alloc, "vortex.null")?)?;
@@ -84,7 +84,7 @@ fn two_ids(alloc: Global) -> Result<Ids, TypeError> {
     Ok(ids)
 }
 
-// Whether an identifier stands at a place, or none.
+// Whether the list has this identifier at an index, or none.
 fn is_at(ids: &Ids, place: usize, text: Option<&str>) -> bool {
     match (ids.get(place), text) {
         (Some(id), Some(text)) => id.as_str() == text,
@@ -93,7 +93,7 @@ fn is_at(ids: &Ids, place: usize, text: Option<&str>) -> bool {
     }
 }
 
-// Whether the two identifiers stand in their order.
+// Whether the two identifiers are at their indices.
 fn are_in_order(alloc: Global) -> Result<bool, TypeError> {
     let ids = two_ids(alloc)?;
     Ok(ids.len() == 2 && is_at(&ids, 1, Some("vortex.primitive")) && is_at(&ids, 2, None))
@@ -105,7 +105,7 @@ fn identifiers_stand_in_order(rt: HostRuntime) {
     assert!(rt; are_in_order(rt.alloc()) == Ok(true));
 }
 
-// Each identifier's place, by the identifier.
+// The index of each identifier, by the identifier.
 fn places(alloc: Global, ids: &Ids) -> Result<HashMap<Id, usize>, TypeError> {
     let mut places = HashMap::new(alloc);
     for (place, id) in ids.as_slice().iter().enumerate() {
@@ -114,13 +114,13 @@ fn places(alloc: Global, ids: &Ids) -> Result<HashMap<Id, usize>, TypeError> {
     Ok(places)
 }
 
-// The places of these two.
+// The indices of the two.
 fn two_places(alloc: Global) -> Result<HashMap<Id, usize>, TypeError> {
     let ids = two_ids(alloc)?;
     places(alloc, &ids)
 }
 
-// The place of an identifier among them.
+// The index of an identifier among them.
 fn place(alloc: Global, text: &str) -> Result<Option<usize>, TypeError> {
     let id = Id::new(alloc, text)?;
     Ok(two_places(alloc)?.get(&id).copied())

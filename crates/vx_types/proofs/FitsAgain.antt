@@ -1,5 +1,5 @@
--- A value that fits a type fits it where it may be null, too; an extension's by its storage, a map's by the
--- lists of its entries.
+-- A value that fits a type fits its nullable form; one that fits the storage fits the extension; one that fits the
+-- list of a map's entries fits the map.
 use Rattle.std.proofs.Common.{ℕ, ◌≡◌, List, Bool, refl, sym, subst}
 use Rattle.vx_trees.specs.Rose.{Roses, node, end, more, count}
 use Rattle.vx_types.specs.Fits.{Fits, FitParts, FitsMember, EachFits, FitBy, IsBoolean, IsOf, IsDecimal, IsUtf8, IsBinary, IsVariant, bare, bare_first}
@@ -14,7 +14,7 @@ use Rattle.vx_types.specs.declared.nullability.Nullability.TheVariants.{Nullable
 use Rattle.vx_numbers.specs.declared.ptype.PType.{PType}
 use Rattle.vx_types.proofs.Nullabilities.{nullable_under}
 
--- ---- what a type is stored as, under another nullability
+-- ---- the bare type, under another nullability
 
 mutual
   pub bare_under : (m : Nullability) (d : Typ) → bare (with_nullability m d) ≡ with_nullability m (bare d)
@@ -25,7 +25,7 @@ mutual
   bare_first_under m end = refl
   bare_first_under m (more t ts) = bare_under m t
 
--- What holds of a type but for its nullability.
+-- Facts that nullability does not change.
 under : (P : Typ → Type 0) (m : Nullability) (d : Typ) → (P (bare d) → P (with_nullability m (bare d))) → P (bare d) → P (bare (with_nullability m d))
 under P m d f p = subst P (sym (bare_under m d)) (f p)
 
@@ -66,7 +66,7 @@ member_under k B m _ f = absurd f
 
 -- ---- values
 
--- Where a type may be null, what fitted it before fits it.
+-- What fits a type fits its nullable form.
 pub fits_nullable : (v : Value) (d : Typ) → Fits v d → Fits v (with_nullability Nullable d)
 fits_nullable (node null vs) d f = (nullable_under d, f.1)
 fits_nullable (node opaque vs) d f = f
@@ -83,12 +83,12 @@ fits_nullable (node (union g) vs) d f =
     under Member Nullable d (member_under g (λ ts. FitBy vs ts) Nullable (bare d)) f
 fits_nullable (node (variant e) vs) d f = (under IsVariant Nullable d (variant_under Nullable (bare d)) f.0, f.1)
 
--- An extension's values are its storage's.
+-- What fits the storage fits the extension.
 pub fits_extension : (id ys : List ℕ) (t : Typ) (v : Value) → Fits v t → Fits v (node (K.extension id ys) (more t end))
 fits_extension id ys t (node null vs) f = f
 fits_extension id ys t _ f = f
 
--- A map's values are the lists of its entries.
+-- What fits the list of its entries fits the map.
 pub fits_map : (b : Bool) (m : Nullability) (x y : Typ) (v : Value) → Fits v (node (K.list m) (more (entries (record { key = x; value = y; keys_sorted = b })) end)) → Fits v (node (K.map b m) (more x (more y end)))
 fits_map b m x y (node null vs) f = f
 fits_map b m x y _ f = f

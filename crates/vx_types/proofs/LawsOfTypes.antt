@@ -1,8 +1,9 @@
--- What holds of types and lists of them, for the proofs of other crates.
+-- Laws of types and of lists of types, for the proofs of other crates.
 
--- A list of types has as many trees; the type at a place of it is the list's type there.
+-- A list of types has as many trees as types; the tree at an index is that of the type there.
 pub use Rattle.vx_types.proofs.Lists.{typs-length, typs-at}
--- What fits a type fits it where it may be null; what fits the type after an extension or a map fits these.
+-- What fits a type fits its nullable form; what fits the storage of an extension, or the lists of a map's entries,
+-- fits the extension or the map.
 pub use Rattle.vx_types.proofs.FitsAgain.{bare_under, fits_nullable, fits_extension, fits_map}
--- A type under a nullability that it has is itself, and the last of two counts.
+-- A type under its own nullability is itself; of two changes of nullability the last counts.
 pub use Rattle.vx_types.proofs.Nullabilities.{nullable_under, same_nullability, own_nullability, twice_nullability}

@@ -47,7 +47,7 @@ same-more_suc (x ∷ ds) (y ∷ es) (suc i) d e h k p q =
     let f : i < length es = omega (arith, k) in
     both _ _ _ _ (heads _ _ _ _ p) (same-more_suc ds es i d e g f (tails _ _ _ _ p) q)
 
--- Lists that are the same as far as i, and at i, are the same as far as i + 1.
+-- Lists that agree below index i and at i agree below i + 1.
 pub same-more : (ds es : List DType) (i : ℕ) (d e : DType) → i < length ds → i < length es → typs (take i ds) ≡ typs (take i es)
     → typ (get_or ds i d) ≡ typ (get_or es i e) → typs (take (i + 1) ds) ≡ typs (take (i + 1) es)
 same-more ds es i d e h k p q = rw (add-one i) (same-more_suc ds es i d e h k p q)
@@ -65,9 +65,9 @@ typs-levels_more : (ds : List DType) (d : DType) → levels_below (roses_of (typ
 typs-levels_more [] d = omega arith
 typs-levels_more (x ∷ ds) d = omega (arith, typs-levels_more ds d)
 
--- One type more at the end may be the deepest.
+-- The depth of a list with one more type at the end.
 pub typs-levels_push : (ds es : List DType) (d : DType) → es ≡ ds ++ d ∷ [] → levels_below (roses_of (typs es)) ≡ max (levels_below (roses_of (typs ds))) (levels (typ d))
 typs-levels_push ds es d e = ap (λ (xs : List DType). levels_below (roses_of (typs xs))) e ∙ typs-levels_more ds d
 
--- For loops over types.
+-- For loops over lists of types.
 pub ruleset decreasing = (size-at, roses_of-injective, typs-length, typs-at, same-more, same-at)

@@ -32,7 +32,7 @@ mutual
 pub same_nullability : (m : Nullability) (d : Typ) → nullability d ≡ m → with_nullability m d ≡ d
 same_nullability m d e = ap (λ n. with_nullability n d) (sym e) ∙ own_nullability d
 
--- Under nullability each type may be null.
+-- A type made nullable is nullable.
 mutual
   pub nullable_under : (d : Typ) → nullability (with_nullability Nullable d) ≡ Nullable
   nullable_under (node (K.extension id bs) ts) = nullable_first ts

@@ -1,4 +1,4 @@
--- The tree of a type tells the type.
+-- The tree of a type determines the type.
 use Rattle.std.specs.Prelude.{◌≡◌, List, [], ◌∷◌, ◌++◌, refl}
 use Rattle.std.proofs.Common.{ap, sym, ◌∙◌}
 use Rattle.vx_trees.specs.Rose.{Roses, node, end, more, roses_list}
@@ -20,7 +20,7 @@ abbrev second : Roses Kind → Typ
 second end = node null end
 second (more t ts) = first ts
 
--- The type that a tree is of.
+-- The type of a tree.
 abbrev dtype_of : Typ → DType
 dtype_of (node null ts) = Null
 dtype_of (node (boolean n) ts) = Bool n

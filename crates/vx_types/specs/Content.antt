@@ -1,17 +1,17 @@
--- What the plain parts of a type may be.
+-- The conditions on the plain parts of a type: names, tags and digits.
 use Rattle.std.specs.Prelude.{ℕ, ℤ, pos, negsuc, ◌≤ℤ◌, ◌≡◌, ◌≤◌, List, [], ◌∷◌, IsTrue, AllPairs}
 use Rattle.std.specs.Str.{is_utf8}
 
--- A text is the bytes of characters in UTF-8.
+-- The bytes are UTF-8.
 abbrev pub IsText : List ℕ → Type 0
 IsText bs = IsTrue (is_utf8 bs)
 
--- Each of a list of names is a text.
+-- Each name of the list is UTF-8.
 abbrev pub AreTexts : List (List ℕ) → Type 0
 AreTexts [] = Unit {0}
 AreTexts (s ∷ ss) = IsText s × AreTexts ss
 
--- No two of the numbers, at different places, are equal.
+-- The numbers are distinct.
 abbrev pub AreDistinct : List ℕ → Type 0
 AreDistinct ns = AllPairs (λ m n. m ≡ n → ⊥) ns
 

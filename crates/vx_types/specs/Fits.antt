@@ -10,17 +10,17 @@ use Rattle.vx_types.specs.declared.nullability.Nullability.TheVariants.{Nullable
 use Rattle.vx_types.specs.Value.{Value, Values, null, opaque, bool, number, decimal, utf8, binary, tuple, union, variant}
 
 abbrev mutual
-  -- What an extension is stored as, at every level; other types are themselves.
+  -- The storage type of an extension, through extensions of extensions; other types are themselves.
   pub bare : Typ → Typ
   bare (node (extension id bs) ts) = bare_first ts
   bare (node k ts) = node k ts
 
-  -- The same of the first of these types.
+  -- The same for the first of these types.
   pub bare_first : Roses Kind → Typ
   bare_first end = node null_kind end
   bare_first (more t ts) = bare t
 
--- What stands under a tag in a list beside the tags: the first, if any.
+-- The member of the first equal tag, in a list beside that of the tags.
 abbrev pub member : {A : Type 0} → ℕ → List ℕ → Roses A → Option (Rose A)
 member tag [] ts = None
 member tag (id ∷ ids) end = None
@@ -56,8 +56,8 @@ abbrev pub IsVariant : Typ → Type 0
 IsVariant (node (variant_kind m) ts) = Unit {0}
 IsVariant _ = ⊥
 
--- The parts of a tuple fit: of a list each one the elements' type, of a list of fixed size as many as that
--- says, of a structure each one its field's, of a map each one the entries'.
+-- The k parts of a tuple fit a type: each fits the element type of a list, and there are as many as a
+-- fixed-size list has; each fits its field of a structure; each fits the entry type of a map.
 abbrev pub FitParts : ℕ → (Typ → Type 0) → (Roses Kind → Type 0) → Typ → Type 0
 FitParts k Each By (node (list m) (more e end)) = Each e
 FitParts k Each By (node (fixed_size_list s m) (more e end)) = (k ≡ s) × Each e
@@ -65,14 +65,14 @@ FitParts k Each By (node (structure ns m) ts) = By ts
 FitParts k Each By (node (map b m) (more x (more y end))) = Each (entries (record { key = x; value = y; keys_sorted = b }))
 FitParts k Each By _ = ⊥
 
--- The one value below a tag fits the member that the tag names.
+-- The one value of a union fits the member that its tag names.
 abbrev pub FitsMember : ℕ → (Roses Kind → Type 0) → Typ → Type 0
 FitsMember tag By (node (union_kind ns ids m) ts) = (d : Typ) × (member tag ids ts ≡ Some d) × By (more d end)
 FitsMember tag By _ = ⊥
 
 abbrev mutual
-  -- A value fits a type: null where that may be, and any other by the type's storage. What is opaque fits none.
-  -- Below a plain mark nothing stands.
+  -- A value fits a type: a null fits a nullable type, and any other value the bare type. An opaque value fits no
+  -- type. A mark that takes no values within it has none.
   pub Fits : Value → Typ → Type 0
   Fits (node null vs) d = (nullability d ≡ Nullable) × (vs ≡ end)
   Fits (node opaque vs) d = ⊥
@@ -85,12 +85,12 @@ abbrev mutual
   Fits (node (union tag) vs) d = FitsMember tag (λ ts. FitBy vs ts) (bare d)
   Fits (node (variant e) vs) d = IsVariant (bare d) × FitBy vs (more e end)
 
-  -- Each of the values fits a type.
+  -- Each of the values fits the type.
   pub EachFits : Values → Typ → Type 0
   EachFits end e = Unit {0}
   EachFits (more v vs) e = Fits v e × EachFits vs e
 
-  -- The values fit the types one by one.
+  -- There are as many values as types, and each fits the type at its index.
   pub FitBy : Values → Roses Kind → Type 0
   FitBy end ts = ts ≡ end
   FitBy (more v vs) ts = elim ts [ end ↦ ⊥ | more d ds ↦ Fits v d × FitBy vs ds ]

@@ -8,11 +8,10 @@ use Rattle.vx_numbers.specs.declared.ptype.PType.{PType}
 use Rattle.vx_types.specs.contracts.nullability.Nullability as nullability
 use Rattle.vx_numbers.specs.contracts.ptype.PType as ptype
 
--- Each kind but the first and the last says whether its rows may be null. Beside
--- that a kind of numbers says which, a decimal its precision and scale, a list of
--- fixed size how many elements a row has, a structure the names of its fields, a
--- union the names and tags of its members, a map whether its keys are sorted, and
--- an extension its identifier and its metadata.
+-- Each kind but the first and the last has a nullability. Beside that a number has its
+-- kind, a decimal its precision and scale, a fixed-size list its size, a structure the
+-- names of its fields, a union the names and tags of its members, a map whether its
+-- keys are sorted, and an extension its identifier and metadata.
 pub data Kind : Type 0 where
   null : Kind
   boolean : Nullability → Kind
@@ -28,7 +27,7 @@ pub data Kind : Type 0 where
   variant : Nullability → Kind
   extension : List ℕ → List ℕ → Kind
 
--- How a kind is stored: its case, and what the case holds.
+-- The code of a kind: its constructor, and the arguments of that.
 abbrev Stored : Type 0
 Stored =
     Unit {0} ⊎ (Nullability ⊎ ((PType × Nullability) ⊎ ((ℕ × (ℤ × Nullability)) ⊎ (Nullability ⊎ (Nullability ⊎ (Nullability ⊎ ((ℕ × Nullability)
@@ -85,7 +84,7 @@ coded_nullability = nullability.the_row.coded
 abbrev pub coded_bytes : Coded (List ℕ)
 coded_bytes = coded_list coded_ℕ
 
--- The code by which kinds are told apart.
+-- The code of kinds, which decides their equality.
 abbrev pub kind_code : Coded Kind
 kind_code =
     code_by Stored (coded⊎ coded_unit (coded⊎ coded_nullability (coded⊎ (coded× ptype.the_row.coded coded_nullability) (coded⊎ (coded× coded_ℕ (coded× coded_ℤ coded_nullability))

@@ -1,4 +1,4 @@
--- Each part of a type is smaller than the type: what recursions go down by.
+-- Each part of a type is smaller than the type, which makes recursion over types end.
 use Rattle.std.specs.Prelude.{◌+◌, ◌*◌, ◌≤◌, List, [], ◌∷◌, max}
 use Rattle.std.proofs.Common.{arith}
 use Rattle.vx_trees.specs.Rose.{roses_of}

@@ -23,13 +23,13 @@ pub record Entries : Type 0 where
   pub value : Typ
   pub keys_sorted : Bool
 
--- An extension's identifier, its metadata and the type that it is stored as.
+-- An extension's identifier, its metadata and the type of its storage.
 pub record Ext : Type 0 where
   pub id : List ℕ
   pub metadata : List ℕ
   pub storage : Typ
 
--- Each record is stored as its parts.
+-- The codes of these records, by their fields.
 abbrev pub fields_code : Coded Fields
 fields_code =
     code_by (List (List ℕ) × List Typ) (coded× (coded_list coded_bytes) (coded_list typ_code))
@@ -50,8 +50,8 @@ ext_code =
     code_by (List ℕ × (List ℕ × Typ)) (coded× coded_bytes (coded× coded_bytes typ_code))
     (λ x. (x.id, (x.metadata, x.storage))) (λ p. record { id = p.0; metadata = p.1.0; storage = p.1.1 }) (λ _. refl)
 
--- Sizes for recursions: four times the nodes, so that each part lies between a
--- type and the types within it.
+-- Sizes for recursion: four times the number of nodes, so that each part has a size
+-- between that of a type and those of the types within it.
 abbrev pub typ_size : Typ → ℕ
 typ_size t = 4 * nodes t
 

@@ -1,4 +1,4 @@
--- A declared type as the tree that contracts see.
+-- The tree that contracts see of a `DType`.
 use Rattle.std.specs.Prelude.{List, ⊤, map as each}
 use Rattle.vx_trees.specs.Rose.{node, end, more, roses_of}
 use Rattle.vx_types.specs.Kind.{null, boolean, primitive, decimal, utf8, binary, list, fixed_size_list, structure, union, map, variant, extension}
@@ -6,7 +6,7 @@ use Rattle.vx_types.specs.Typ.{Typ}
 use Rattle.vx_types.specs.declared.dtype.DType.{DType}
 use Rattle.vx_types.specs.declared.dtype.DType.TheVariants.{Null, Bool, Primitive, Decimal, Utf8, Binary, List as ListOf, FixedSizeList, Struct, Union, Map, Variant, Extension}
 
--- One level: the kind of a type, over the types that it holds.
+-- The kind of a type over the trees of the types within it, which their parts show.
 abbrev pub typ : DType → Typ
 typ Null = node null end
 typ (Bool n) = node (boolean n) end
@@ -22,11 +22,11 @@ typ (Map m n) = node (map m.keys_sorted n) (more m.key (more m.value end))
 typ (Variant n) = node (variant n) end
 typ (Extension x) = node (extension x.id x.metadata) (more x.storage end)
 
--- The types of structures.
+-- A type is that of structures.
 abbrev pub IsStruct : DType → Type 0
 IsStruct (Struct f n) = ⊤
 IsStruct _ = ⊥
 
--- A list of types, each as its tree.
+-- The trees of a list of types.
 abbrev pub typs : List DType → List Typ
 typs ds = each typ ds

@@ -12,16 +12,16 @@ use Rattle.vx_types.specs.Kind.{Kind, null, boolean, primitive, decimal, utf8, b
 abbrev pub Typ : Type 0
 Typ = Rose Kind
 
--- The code by which types are told apart.
+-- The code of types, which decides their equality.
 abbrev pub typ_code : Coded Typ
 typ_code = coded_rose null kind_code
 
--- A structure has one name for each of its fields.
+-- A structure has as many names as fields, each UTF-8.
 pub record IsStructure (names : List (List ℕ)) (size : ℕ) : Type 0 where
   pub types : size ≡ length names
   pub texts : AreTexts names
 
--- A union has one name and one tag for each of its members, and no tag twice.
+-- A union has as many names and tags as members; the tags are distinct.
 pub record IsUnion (names : List (List ℕ)) (ids : List ℕ) (size : ℕ) : Type 0 where
   pub types : size ≡ length names
   pub tags : length ids ≡ length names
@@ -29,10 +29,9 @@ pub record IsUnion (names : List (List ℕ)) (ids : List ℕ) (size : ℕ) : Typ
   pub bytes : AreBytes ids
   pub distinct : AreDistinct ids
 
--- A kind stands over as many types as it asks for: an extension over its storage,
--- a list over the type of its elements, a map over the types of its keys and its
--- values, a structure and a union over one for each name. Its own parts are such
--- as they may be.
+-- A kind has the types within it that it asks for: an extension its storage, a list
+-- the type of its elements, a map the types of its keys and its values, a structure
+-- and a union one for each name. The kind's own part meets its conditions.
 abbrev pub IsTypeNode : Kind → Roses Kind → Type 0
 IsTypeNode null ts = count ts ≡ 0
 IsTypeNode (boolean n) ts = count ts ≡ 0
@@ -48,10 +47,10 @@ IsTypeNode (map b n) ts = count ts ≡ 2
 IsTypeNode (variant n) ts = count ts ≡ 0
 IsTypeNode (extension id bs) ts = (count ts ≡ 1) × IsText id × AreBytes bs
 
--- A tree of kinds is a type if this holds at each of its nodes.
+-- A tree of kinds is a type where this holds at each of its nodes.
 abbrev pub IsType : Typ → Type 0
 IsType = Everywhere IsTypeNode
 
--- Each of a list of trees is a type.
+-- Each tree of the list is a type.
 abbrev pub AreTypes : List Typ → Type 0
 AreTypes ts = EverywhereBelow IsTypeNode (roses_of ts)

@@ -1,4 +1,4 @@
--- Values whose plain parts are what a machine holds: numbers in their range, texts of characters, bytes.
+-- Values whose plain parts a machine can hold: numbers in their range, UTF-8 texts, bytes.
 use Rattle.std.specs.Prelude.{◌≡◌, ◌<◌, ◌^◌, length, FitsSigned}
 use Rattle.std.specs.Int.{w8, w16, w32, w64, w128}
 use Rattle.vx_trees.specs.Rose.{node, end, more}
@@ -10,7 +10,7 @@ use Rattle.vx_numbers.specs.declared.value.PValue.TheVariants.{U8, U16, U32, U64
 use Rattle.vx_types.specs.Value as V
 use Rattle.vx_types.specs.Value.{Value, Values, Mark, DecimalValue, number, decimal, utf8, binary, union, variant}
 
--- A number is one of as many bits as its kind's name says, with a sign or without.
+-- The number is in the range of its kind.
 abbrev pub IsInRange : PValue → Type 0
 IsInRange (U8 n) = n < 2 ^ 8
 IsInRange (U16 n) = n < 2 ^ 16
@@ -24,7 +24,7 @@ IsInRange (F16 bits) = bits < 2 ^ 16
 IsInRange (F32 bits) = bits < 2 ^ 32
 IsInRange (F64 bits) = bits < 2 ^ 64
 
--- A decimal's integer is one of as many bits as its name says; the widest has its 32 bytes.
+-- A decimal's integer is in the range of its width; the widest has 32 bytes.
 abbrev pub IsDecimalInRange : DecimalValue → Type 0
 IsDecimalInRange (V.i8 z) = FitsSigned w8 z
 IsDecimalInRange (V.i16 z) = FitsSigned w16 z
@@ -33,7 +33,7 @@ IsDecimalInRange (V.i64 z) = FitsSigned w64 z
 IsDecimalInRange (V.i128 z) = FitsSigned w128 z
 IsDecimalInRange (V.i256 bytes) = (length bytes ≡ 32) × AreBytes bytes
 
--- A mark's own part: a tag is a byte, and a variant's type is a type.
+-- The part of a mark is in range: a tag is a byte, and a variant's type is a type.
 abbrev pub IsWellMark : Mark → Type 0
 IsWellMark (number n) = IsInRange n
 IsWellMark (decimal x) = IsDecimalInRange x
@@ -44,7 +44,7 @@ IsWellMark (variant d) = IsType d
 IsWellMark _ = Unit {0}
 
 abbrev mutual
-  -- A value is well if its mark is, and so are the values within it.
+  -- A value is well where its mark is, and the values within it are.
   pub IsWell : Value → Type 0
   IsWell (node m vs) = IsWellMark m × AreWell vs
 

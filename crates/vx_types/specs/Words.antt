@@ -1,4 +1,4 @@
--- What is said of types.
+-- Nullability of types, and the type of a map's entries.
 use Rattle.std.specs.Prelude.{ℕ, List, [], ◌∷◌}
 use Rattle.vx_trees.specs.Rose.{Roses, node, end, more}
 use Rattle.vx_types.specs.declared.nullability.Nullability.{Nullability}
@@ -8,8 +8,8 @@ use Rattle.vx_types.specs.Parts.{Entries}
 use Rattle.vx_types.specs.Typ.{Typ}
 
 abbrev mutual
-  -- A kind says whether its rows may be null; rows of the kind of nulls always
-  -- may, and those of an extension where those of its storage may.
+  -- The nullability of a type: that of its kind; the kind of nulls is nullable, and
+  -- an extension has the nullability of its storage.
   pub nullability : Typ → Nullability
   nullability (node null ts) = Nullable
   nullability (node (boolean n) ts) = n
@@ -25,14 +25,14 @@ abbrev mutual
   nullability (node (variant n) ts) = n
   nullability (node (extension id bs) ts) = first_nullability ts
 
-  -- That of the first of the types.
+  -- The nullability of the first of the types.
   pub first_nullability : Roses Kind → Nullability
   first_nullability end = Nullable
   first_nullability (more t ts) = nullability t
 
 abbrev mutual
-  -- The type with another nullability: the kind of nulls has none to change, and
-  -- that of an extension is its storage's.
+  -- The type with another nullability. The kind of nulls stays as it is; for an
+  -- extension the nullability of its storage changes.
   pub with_nullability : Nullability → Typ → Typ
   with_nullability m (node null ts) = node null ts
   with_nullability m (node (boolean n) ts) = node (boolean m) ts
@@ -48,7 +48,7 @@ abbrev mutual
   with_nullability m (node (variant n) ts) = node (variant m) ts
   with_nullability m (node (extension id bs) ts) = node (extension id bs) (with_first_nullability m ts)
 
-  -- The types with the first of them changed so.
+  -- The types, the first with another nullability.
   pub with_first_nullability : Nullability → Roses Kind → Roses Kind
   with_first_nullability m end = end
   with_first_nullability m (more t ts) = more (with_nullability m t) ts

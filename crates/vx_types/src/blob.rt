@@ -1,4 +1,4 @@
-//! Plain bytes.
+//! Owned bytes.
 
 ghost use Rattle.std.specs.Prelude.{◌≡◌, ◌==◌, IfOk, IsOkUnless, bytes_eq, length};
 ghost use Rattle.vx_trees.specs.Bytes.{AreBytes};
@@ -9,8 +9,7 @@ use crate::error::TypeError;
 use std::alloc::Global;
 use std::marker::Model;
 
-/// Bytes that are owned, as metadata or the content of a file. Contracts see
-/// their list.
+/// Owned bytes, as of metadata or a binary scalar. Contracts see their list.
 #[derive(Debug, Drop)]
 pub struct Blob {
     pub(crate) bytes: Vec<u8>,
@@ -52,7 +51,7 @@ impl Blob {
         self.bytes.as_slice()
     }
 
-    /// How many bytes there are.
+    /// The number of bytes.
     pub fn len(&self) -> usize
         ensures len { result ≡ length self.now }
         ensures bytes { AreBytes self.now }
@@ -60,14 +59,14 @@ impl Blob {
         self.bytes.len()
     }
 
-    /// Whether there is no byte.
+    /// Whether there are no bytes.
     pub fn is_empty(&self) -> bool
         ensures { result ≡ (length self.now == 0) }
     {
         self.bytes.is_empty()
     }
 
-    /// The bytes, handed out.
+    /// The bytes, without a copy.
     pub fn into_vec(self) -> Vec<u8>
         ensures { result.items ≡ self }
     {

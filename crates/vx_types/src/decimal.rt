@@ -1,4 +1,4 @@
-//! Decimals.
+//! The types of decimals.
 
 ghost use Rattle.std.specs.Prelude.{◌≡◌, ◌<◌, ◌⊎◌, IfOk, IfErr};
 ghost use Rattle.vx_types.specs.Content.{IsDecimal};
@@ -6,8 +6,9 @@ ghost use Rattle.vx_types.specs.Content.{IsDecimal};
 use crate::error::TypeError;
 use std::marker::Model;
 
-/// How a decimal is written: how many digits it has, 1 to 76, and how many of
-/// them stand after the point. A scale below 0 stands for zeros before the point.
+/// The precision of a decimal, its number of digits, 1 to 76, and its scale, the
+/// number of digits after the point. A negative scale is that many zeros before
+/// the point.
 #[derive(Clone, Copy, Debug, PartialEq, Eq)]
 pub struct DecimalDType {
     pub(crate) precision: u8,
@@ -28,7 +29,7 @@ impl Model for DecimalDType {
 }
 
 impl DecimalDType {
-    /// A decimal of this many digits and this scale. `BadDecimal` exactly where
+    /// The type of decimals of this precision and scale. `BadDecimal` exactly where
     /// the precision is 0 or over 76.
     pub fn try_new(precision: u8, scale: i8) -> Result<DecimalDType, TypeError>
         ensures ok { IfOk result (λ d. d ≡ record { precision = precision; scale = scale }) }
@@ -44,7 +45,7 @@ impl DecimalDType {
         Ok(DecimalDType { precision, scale })
     }
 
-    /// How many digits there are, 1 to 76.
+    /// The number of digits, 1 to 76.
     pub fn precision(&self) -> u8
         ensures same { result ≡ self.now.precision }
         ensures decimal { IsDecimal self.now.precision self.now.scale }
@@ -53,7 +54,7 @@ impl DecimalDType {
         self.precision
     }
 
-    /// How many of the digits stand after the point.
+    /// The number of digits after the point; negative for zeros before it.
     pub fn scale(&self) -> i8
         ensures { result ≡ self.now.scale }
     {

@@ -18,7 +18,7 @@ use crate::union_variants::UnionVariants;
 use std::alloc::Global;
 use vx_numbers::PType;
 
-/// A logical type: what an array's rows may be, whatever their encoding.
+/// A logical type: the values that an array's rows may have, whatever its encoding.
 #[cycle(dtype)]
 #[derive(Debug)]
 pub enum DType {
@@ -30,28 +30,29 @@ pub enum DType {
     Primitive(PType, Nullability),
     /// A decimal number of a fixed number of digits.
     Decimal(DecimalDType, Nullability),
-    /// A text.
+    /// UTF-8 text.
     Utf8(Nullability),
     /// Bytes.
     Binary(Nullability),
-    /// A list of any length, of elements of one type.
+    /// Lists of any length; the type of the elements.
     List(TypeRef, Nullability),
-    /// A list of this length, of elements of one type.
+    /// Lists of one length; the type of the elements, and the length.
     FixedSizeList(TypeRef, u32, Nullability),
     /// A value for each of the fields.
     Struct(StructFields, Nullability),
     /// A value of one of the members.
     Union(UnionVariants, Nullability),
-    /// Keys, each with a value.
+    /// Entries, each a key and a value.
     Map(MapDType, Nullability),
     /// A value with a type of its own.
     Variant(Nullability),
-    /// Another type under an identifier. Its rows may be null where those of its
-    /// storage may.
+    /// A type that is stored as another, under an identifier. It has the nullability
+    /// of its storage.
     Extension(ExtDType),
 }
 
-// A type falls by a call of this, wherever one falls, and not part by part.
+// By hand, so that code that drops a type calls this and does not repeat the drops
+// of its parts.
 impl Drop for DType {
     #[cycle(dropping)]
     fn drop(self) {
@@ -74,7 +75,7 @@ impl Drop for DType {
 }
 
 impl DType {
-    /// The fields of a structure and its nullability, handed out; no other type has them.
+    /// The fields and the nullability of a structure; `None` for any other type.
     pub fn into_struct(self) -> Option<(StructFields, Nullability)>
         ensures some { IfSome result (λ parts. self ≡ DType.Struct parts.0 parts.1) }
         ensures none { IfNone result (IsStruct self → ⊥) }
@@ -85,7 +86,8 @@ impl DType {
         }
     }
 
-    /// Whether rows may be null. The type of nulls is nullable.
+    /// Whether rows may be null. `Null` is nullable, and an extension has the
+    /// nullability of its storage.
     pub fn nullability(&self) -> Nullability
         ensures { result ≡ nullability (typ self.now) }
     {
@@ -106,8 +108,8 @@ impl DType {
         }
     }
 
-    /// The same type with this nullability. The type of nulls stays as it is, and
-    /// an extension's storage gets the nullability.
+    /// The same type with this nullability. `Null` stays as it is; for an extension
+    /// the nullability of its storage changes.
     #[cycle(nullable)]
     pub fn with_nullability(
         &self,
@@ -163,8 +165,8 @@ impl DType {
         }
     }
 
-    /// Whether the type has at most this many levels: a type that holds no other
-    /// has one, and each other type one more than the deepest that it holds.
+    /// Whether the type has at most `limit` levels: a type without types within it
+    /// has one level, and any other has one more than the deepest type within it.
     pub fn is_within(&self, limit: u32) -> bool
         ensures within { IsTrue result ↔ (levels (typ self.now) ≤ limit) }
         ensures is_type { IsType (typ self.now) }
@@ -172,8 +174,8 @@ impl DType {
         self.levels() <= limit as u64
     }
 
-    // How many levels the type has, up to the largest number. Each part that holds
-    // types keeps how many they have.
+    // The number of levels, capped at the largest `u64`. Each part that holds types
+    // stores theirs, so that this takes no recursion.
     pub(crate) fn levels(&self) -> u64
         ensures levels { result ≡ min (levels (typ self.now)) (2 ^ 64 - 1) }
         ensures is_type { IsType (typ self.now) }

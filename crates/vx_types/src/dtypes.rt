@@ -1,6 +1,7 @@
 //! Lists of types.
 
-ghost use Rattle.std.specs.Prelude.{◌≡◌, ◌==◌, ◌-◌, ◌^◌, [], ◌∷◌, ◌++◌, OnOk, OnErr, IfOk, IsOkUnless, length, min, slice_get, option_map, option_copied};
+ghost use Rattle.std.specs.Prelude.{◌≡◌, ◌==◌, ◌-◌, ◌^◌, [], ◌∷◌, ◌++◌, OnOk, OnErr, IfOk, IsOkUnless};
+ghost use Rattle.std.specs.Prelude.{length, min, slice_get, option_map, option_copied};
 ghost use Rattle.vx_trees.specs.Rose.{roses_of};
 ghost use Rattle.vx_trees.specs.Walks.{levels_below};
 ghost use Rattle.vx_types.specs.Seen.{typ, typs};
@@ -16,7 +17,7 @@ use std::marker::Model;
 /// A list of types, in order, as of a structure's fields. Contracts see the list
 /// of their trees.
 ///
-/// The types stand after a pointer from the first one on: a type is to be small,
+/// The list is boxed, and an empty one allocates nothing: this keeps a type small,
 /// and most types hold no others.
 #[cycle(dtype)]
 #[derive(Debug, Drop)]
@@ -25,7 +26,7 @@ pub struct DTypes {
     alloc: Global,
 }
 
-/// Nothing, or some types after a pointer.
+/// No types, or a boxed list of them.
 #[cycle(dtype)]
 #[derive(Debug, Drop)]
 enum HeldTypes {
@@ -55,7 +56,7 @@ impl Model for DTypes {
 }
 
 impl DTypes {
-    /// No type; more are stored by this allocator.
+    /// An empty list; types that are pushed are allocated by `alloc`.
     pub fn new(alloc: Global) -> DTypes
         ensures { result ≡ [] }
     {
@@ -65,7 +66,8 @@ impl DTypes {
         }
     }
 
-    /// No type, with room for so many where there is memory for them at once.
+    /// An empty list with room for `room` types; without that room if the allocation
+    /// fails.
     pub fn with_room(alloc: Global, room: usize) -> DTypes
         ensures { result ≡ [] }
     {
@@ -78,7 +80,7 @@ impl DTypes {
         }
     }
 
-    /// How many types there are.
+    /// The number of types.
     pub fn len(&self) -> usize
         ensures len { result ≡ length self.now }
         ensures types { AreTypes self.now }
@@ -89,14 +91,14 @@ impl DTypes {
         }
     }
 
-    /// Whether there is no type.
+    /// Whether the list is empty.
     pub fn is_empty(&self) -> bool
         ensures { result ≡ (length self.now == 0) }
     {
         self.len() == 0
     }
 
-    /// The type at this place, counted from 0; None past the end.
+    /// The type at this index; `None` past the end.
     pub fn get(&self, index: usize) -> Option<&DType>
         ensures { option_map typ (option_copied result) ≡ slice_get self.now index }
     {
@@ -113,8 +115,7 @@ impl DTypes {
         }
     }
 
-    /// One more type at the end. Where there is no memory for it, the list stays
-    /// as it was, and the type is dropped.
+    /// Appends a type. On `OutOfMemory` the list is unchanged, and the type is dropped.
     pub fn push(&mut self, dtype: DType) -> Result<(), TypeError>
         ensures ok { OnOk result (self.new ≡ self.old ++ typ dtype ∷ []) }
         ensures unchanged { OnErr result (self.new ≡ self.old) }
@@ -148,7 +149,7 @@ impl DTypes {
         }
     }
 
-    // How many levels the deepest has, up to the largest number.
+    // The number of levels of the deepest type, capped at the largest `u64`.
     pub(crate) fn levels(&self) -> u64
         ensures levels { result ≡ min (levels_below (roses_of self.now)) (2 ^ 64 - 1) }
         ensures types { AreTypes self.now }
@@ -160,7 +161,7 @@ impl DTypes {
     }
 }
 
-// A list of no type, with room for so many, after a pointer.
+// A boxed list without types, with room for `room` of them.
 fn none(alloc: Global, room: usize) -> Result<Box<TypeList>, TypeError>
     ensures ok { IfOk result (λ b. b.value ≡ []) }
     ensures err { IsOkUnless result TypeError.OutOfMemory }
@@ -169,7 +170,7 @@ fn none(alloc: Global, room: usize) -> Result<Box<TypeList>, TypeError>
     Ok(Box::new(alloc, types)?)
 }
 
-// A list of this type alone, after a pointer.
+// A boxed list of this type alone.
 fn first(alloc: Global, dtype: DType) -> Result<Box<TypeList>, TypeError>
     ensures ok { IfOk result (λ b. b.value ≡ typ dtype ∷ []) }
     ensures err { IsOkUnless result TypeError.OutOfMemory }

@@ -1,4 +1,4 @@
-//! Refusals of this crate.
+//! Errors of types and scalars.
 
 ghost use Rattle.std.specs.Prelude.{◌≡◌, Ok, OnOk, IfOk, IsOk, IsOkUnless};
 ghost use Rattle.vx_types.specs.declared.error.TypeError.TheVariants.{OutOfMemory};
@@ -6,21 +6,24 @@ ghost use Rattle.vx_types.specs.declared.error.TypeError.TheVariants.{OutOfMemor
 use std::alloc::{AllocError, AllocFailed};
 use thiserror::Error;
 
-/// Why a type or a plain value could not be made.
+/// Why a type, a scalar or a set of statistics is not made or not accepted.
 #[derive(Clone, Copy, Debug, PartialEq, Eq, Error)]
 pub enum TypeError {
-    /// The allocator gave no memory.
+    /// An allocation failed.
     #[error("out of memory")]
     OutOfMemory,
     /// A decimal's precision is 0 or over 76.
     #[error("a decimal's precision is not 1 to 76")]
     BadDecimal,
-    /// There are not as many names, or tags, as types.
+    /// The lists of names, types and tags differ in length.
     #[error("the numbers of names, types and tags differ")]
     FieldCount,
-    /// A tag stands twice in a union.
+    /// Two members of a union have the same tag.
     #[error("a union's tag stands twice")]
     DuplicateTag,
+    /// A value does not fit its type, or a statistic the type of that statistic.
+    #[error("the value does not fit the type")]
+    BadScalar,
 }
 
 impl From<AllocError> for TypeError {
@@ -39,8 +42,8 @@ impl<T: Drop> From<AllocFailed<T>> for TypeError {
     }
 }
 
-/// What a call of this crate made whose one refusal is allocation failure, with that refusal as the allocator's own, which every
-/// crate tells in its words. No other refusal is told as that.
+/// The result of a call whose only error is `OutOfMemory`, with the allocator's own error
+/// in its place, which each crate converts to its own error by `?`.
 pub fn or_memory<T: Drop>(made: Result<T, TypeError>) -> Result<T, AllocError>
     requires only { IsOkUnless made TypeError.OutOfMemory }
     ensures same { IfOk result (λ x. made ≡ Ok x) }

@@ -1,4 +1,4 @@
-//! Extensions.
+//! The types of extensions.
 
 ghost use Rattle.std.specs.Prelude.{◌≡◌, ◌-◌, ◌^◌, IfOk, IsOkUnless, min};
 ghost use Rattle.vx_trees.specs.Walks.{levels};
@@ -17,8 +17,8 @@ use crate::type_ref::TypeRef;
 use std::alloc::Global;
 use std::marker::Model;
 
-/// A type that is stored as another: its identifier, its metadata, and the type
-/// of its storage.
+/// A type that is stored as another: its identifier, its metadata, and the type of
+/// its storage.
 #[cycle(dtype)]
 #[derive(Debug, Drop)]
 pub struct ExtDType {
@@ -26,7 +26,7 @@ pub struct ExtDType {
     storage: TypeRef,
 }
 
-/// What an extension has beside its storage.
+/// The identifier and the metadata, boxed to keep a type small.
 #[derive(Debug, Drop)]
 struct Own {
     id: Id,
@@ -58,7 +58,7 @@ impl ExtDType {
         ensures ok { IfOk result (λ ext. ext ≡ record { id = id; metadata = metadata; storage = typ storage }) }
         ensures err { IsOkUnless result TypeError.OutOfMemory }
     {
-        // A look at the fields of both: the one is a text, the other bytes.
+        // Reads the fields, so that the proof has their invariants.
         let _ = &id.text;
         let _ = &metadata.bytes;
         let storage = TypeRef::new(alloc, storage)?;
@@ -100,14 +100,18 @@ impl ExtDType {
         Ok(ExtDType { own, storage })
     }
 
-    // The same extension, with this nullability of its storage.
+    // The same extension over its storage with this nullability.
     #[cycle(nullable)]
     pub(crate) fn with_nullability(
         &self,
         alloc: Global,
         nullability: Nullability,
     ) -> Result<ExtDType, TypeError>
-        ensures ok { IfOk result (λ ext. ext ≡ record { id = self.now.id; metadata = self.now.metadata; storage = with_nullability nullability self.now.storage }) }
+        ensures ok { IfOk result (λ ext. ext ≡ record {
+          id = self.now.id;
+          metadata = self.now.metadata;
+          storage = with_nullability nullability self.now.storage;
+        }) }
         ensures err { IsOkUnless result TypeError.OutOfMemory }
     {
         let id = self.id().clone(alloc)?;
@@ -116,7 +120,7 @@ impl ExtDType {
         ExtDType::new(alloc, id, metadata, storage)
     }
 
-    // How many levels the storage has, up to the largest number.
+    // The number of levels of the storage, capped at the largest `u64`.
     pub(crate) fn levels(&self) -> u64
         ensures levels { result ≡ min (levels self.now.storage) (2 ^ 64 - 1) }
         ensures id { IsText self.now.id }

@@ -13,7 +13,7 @@ use std::alloc::Global;
 use std::hash::{Hash, Hasher};
 use std::marker::Model;
 
-/// An identifier, as of an encoding: a text. Contracts see its UTF-8 bytes.
+/// An identifier, as of an encoding or an extension. Contracts see its UTF-8 bytes.
 #[derive(Debug, Drop)]
 pub struct Id {
     pub(crate) text: String,

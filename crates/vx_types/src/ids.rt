@@ -1,14 +1,15 @@
 //! Lists of identifiers.
 
-ghost use Rattle.std.specs.Prelude.{◌≡◌, ◌==◌, [], ◌∷◌, ◌++◌, OnOk, OnErr, IsOkUnless, length, slice_get, option_copied};
+ghost use Rattle.std.specs.Prelude.{◌≡◌, ◌==◌, [], ◌∷◌, ◌++◌, OnOk, OnErr, IsOkUnless};
+ghost use Rattle.std.specs.Prelude.{length, slice_get, option_copied};
 
 use crate::error::TypeError;
 use crate::id::Id;
 use std::alloc::Global;
 use std::marker::Model;
 
-/// A list of identifiers, in order; one may stand there more than once.
-/// Contracts see the list of their UTF-8 bytes.
+/// A list of identifiers, in order, repetitions allowed. Contracts see the list of
+/// their UTF-8 bytes.
 #[derive(Drop)]
 pub struct Ids {
     items: Vec<Id>,
@@ -23,7 +24,7 @@ impl Model for Ids {
 }
 
 impl Ids {
-    /// No identifier; more are stored by this allocator.
+    /// An empty list; identifiers that are pushed are allocated by `alloc`.
     pub fn new(alloc: Global) -> Ids
         ensures { result ≡ [] }
     {
@@ -32,21 +33,21 @@ impl Ids {
         }
     }
 
-    /// How many identifiers there are.
+    /// The number of identifiers.
     pub fn len(&self) -> usize
         ensures { result ≡ length self.now }
     {
         self.items.len()
     }
 
-    /// Whether there is no identifier.
+    /// Whether the list is empty.
     pub fn is_empty(&self) -> bool
         ensures { result ≡ (length self.now == 0) }
     {
         self.items.is_empty()
     }
 
-    /// The identifier at this place, counted from 0; None past the end.
+    /// The identifier at this index; `None` past the end.
     pub fn get(&self, index: usize) -> Option<&Id>
         ensures { option_copied result ≡ slice_get self.now index }
     {
@@ -60,8 +61,8 @@ impl Ids {
         self.items.as_slice()
     }
 
-    /// One more identifier at the end. Where there is no memory for it, the list
-    /// stays as it was, and the identifier is dropped.
+    /// Appends an identifier. On `OutOfMemory` the list is unchanged, and the
+    /// identifier is dropped.
     pub fn push(&mut self, id: Id) -> Result<(), TypeError>
         ensures ok { OnOk result (self.new ≡ self.old ++ id ∷ []) }
         ensures unchanged { OnErr result (self.new ≡ self.old) }

@@ -1,4 +1,4 @@
-//! What holds of types, for the contracts of other crates.
+//! Laws of types, for the contracts of other crates.
 
 ghost use Rattle.std.specs.Prelude.{◌≡◌, ◌↔◌, IsTrue};
 ghost use Rattle.vx_trees.specs.Same.{same};
@@ -8,13 +8,13 @@ ghost use Rattle.vx_types.specs.Typ.{Typ, typ_code};
 
 pub use vx_numbers::laws::{code_is_of_one_decimal_type, code_is_of_one_kind};
 
-/// Types that are seen as the same tree are the same type.
+/// Types of the same tree are the same type.
 pub fn same_tree_is_same_type()
     ensures { (a b : DType) → typ a ≡ typ b → a ≡ b }
 {}
 
-/// The test that `==` of types makes, which is stated by how trees are stored, is equality of the
-/// trees that they are seen as.
+/// The test of `==` on types, which its contract states by the codes of trees, is equality
+/// of the trees.
 pub fn equal_types_are_one_tree()
     ensures { (a b : Typ) → IsTrue (same typ_code a b) ↔ (a ≡ b) }
 {}

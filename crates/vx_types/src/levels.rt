@@ -1,4 +1,4 @@
-//! How deep types are.
+//! Depths of types.
 
 ghost use Rattle.std.specs.Prelude.{◌≡◌, max};
 

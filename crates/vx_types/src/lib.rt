@@ -1,8 +1,8 @@
-//! Logical types and plain values: what an array's rows are, before any bytes.
+//! Logical types: the values that an array's rows may have, whatever their bytes.
 //!
-//! A [`DType`] is seen by contracts as a tree of kinds (`specs::Typ`), so that a
-//! rule on types is written once over trees. Texts, bytes and lists of names,
-//! types, tags and identifiers are small types that contracts see as lists.
+//! Contracts see a [`DType`] as a tree of kinds (`specs::Typ`), so that a rule on
+//! types is written once over trees. Texts, bytes and lists of names, types, tags
+//! and identifiers are small types that contracts see as lists.
 #![tactic(auto)]
 
 pub mod blob;

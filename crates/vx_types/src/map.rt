@@ -99,8 +99,8 @@ impl MapDType {
         })
     }
 
-    /// The type of an entry: a structure, not nullable, of the fields `key` and
-    /// `value`.
+    /// The type of an entry: a structure of the fields `key` and `value`, not
+    /// nullable.
     pub fn entries_dtype(&self, alloc: Global) -> Result<DType, TypeError>
         ensures ok { IfOk result (λ d. typ d ≡ entries self.now) }
         ensures err { IsOkUnless result TypeError.OutOfMemory }
@@ -115,7 +115,7 @@ impl MapDType {
         Ok(DType::Struct(fields, Nullability::NonNullable))
     }
 
-    // How many levels the deeper of the two types has, up to the largest number.
+    // The number of levels of the deeper of the two types, capped at the largest `u64`.
     pub(crate) fn levels(&self) -> u64
         ensures levels { result ≡ min (max (levels self.now.key) (levels self.now.value)) (2 ^ 64 - 1) }
         ensures key { IsType self.now.key }

@@ -9,7 +9,7 @@ use crate::error::TypeError;
 use std::alloc::Global;
 use std::marker::Model;
 
-/// A text: of a field, a file or a word. Contracts see its UTF-8 bytes.
+/// A text, as of a field or a string scalar. Contracts see its UTF-8 bytes.
 #[derive(Debug, Drop)]
 pub struct Name {
     pub(crate) text: String,

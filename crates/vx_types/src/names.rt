@@ -1,6 +1,7 @@
 //! Lists of names.
 
-ghost use Rattle.std.specs.Prelude.{◌≡◌, ◌==◌, ◌↔◌, [], ◌∷◌, ◌++◌, IfOk, OnOk, OnErr, IsOkUnless, IsTrue, length, slice_get, option_copied};
+ghost use Rattle.std.specs.Prelude.{◌≡◌, ◌==◌, ◌↔◌, [], ◌∷◌, ◌++◌, IfOk, OnOk, OnErr, IsOkUnless, IsTrue};
+ghost use Rattle.std.specs.Prelude.{length, slice_get, option_copied};
 ghost use Rattle.vx_types.specs.Content.{AreTexts};
 ghost use Rattle.vx_types.specs.HeldNames.{names_held};
 
@@ -12,7 +13,7 @@ use std::marker::Model;
 /// A list of names, in order, as of a structure's fields. Contracts see the list
 /// of their UTF-8 bytes.
 ///
-/// The names stand after a pointer from the first one on: a type is to be small,
+/// The list is boxed, and an empty one allocates nothing: this keeps a type small,
 /// and most types have no names.
 #[derive(Debug, Drop)]
 pub struct Names {
@@ -20,7 +21,7 @@ pub struct Names {
     alloc: Global,
 }
 
-/// Nothing, or some names after a pointer.
+/// No names, or a boxed list of them.
 #[derive(Debug, Drop)]
 enum HeldNames {
     Nothing,
@@ -40,7 +41,7 @@ impl Model for Names {
 }
 
 impl Names {
-    /// No name; more are stored by this allocator.
+    /// An empty list; names that are pushed are allocated by `alloc`.
     pub fn new(alloc: Global) -> Names
         ensures { result ≡ [] }
     {
@@ -50,7 +51,8 @@ impl Names {
         }
     }
 
-    /// No name, with room for so many where there is memory for them at once.
+    /// An empty list with room for `room` names; without that room if the allocation
+    /// fails.
     pub fn with_room(alloc: Global, room: usize) -> Names
         ensures { result ≡ [] }
     {
@@ -63,24 +65,24 @@ impl Names {
         }
     }
 
-    /// How many names there are.
+    /// The number of names.
     pub fn len(&self) -> usize
         ensures len { result ≡ length self.now }
         ensures texts { AreTexts self.now }
     {
-        // A look at the names: each is a text.
+        // Reads the names, so that the proof has their invariants.
         let _ = &self.held;
         self.as_slice().len()
     }
 
-    /// Whether there is no name.
+    /// Whether the list is empty.
     pub fn is_empty(&self) -> bool
         ensures { result ≡ (length self.now == 0) }
     {
         self.as_slice().is_empty()
     }
 
-    /// The name at this place, counted from 0; None past the end.
+    /// The name at this index; `None` past the end.
     pub fn get(&self, index: usize) -> Option<&Name>
         ensures { option_copied result ≡ slice_get self.now index }
     {
@@ -97,14 +99,13 @@ impl Names {
         }
     }
 
-    /// One more name at the end. Where there is no memory for it, the list stays
-    /// as it was, and the name is dropped.
+    /// Appends a name. On `OutOfMemory` the list is unchanged, and the name is dropped.
     pub fn push(&mut self, name: Name) -> Result<(), TypeError>
         ensures ok { OnOk result (self.new ≡ self.old ++ name ∷ []) }
         ensures unchanged { OnErr result (self.new ≡ self.old) }
         ensures err { IsOkUnless result TypeError.OutOfMemory }
     {
-        // A look at the name's field: it is a text.
+        // Reads the name's field, so that the proof has its invariant.
         let _ = &name.text;
         push_name(&mut self.held, self.alloc, name)?;
         Ok(())
@@ -129,7 +130,7 @@ impl Names {
     }
 }
 
-// One more name after the others. Where there is no memory for it, nothing changes.
+// Appends a name; on `OutOfMemory` nothing changes.
 fn push_name(held: &mut HeldNames, alloc: Global, name: Name) -> Result<(), TypeError>
     ensures ok { OnOk result (names_held held.new ≡ names_held held.old ++ name ∷ []) }
     ensures unchanged { OnErr result (names_held held.new ≡ names_held held.old) }
@@ -147,7 +148,7 @@ fn push_name(held: &mut HeldNames, alloc: Global, name: Name) -> Result<(), Type
     }
 }
 
-// A list of no name, with room for so many, after a pointer.
+// A boxed list without names, with room for `room` of them.
 fn none(alloc: Global, room: usize) -> Result<Box<Vec<Name>>, TypeError>
     ensures ok { IfOk result (λ b. b.value.items ≡ []) }
     ensures err { IsOkUnless result TypeError.OutOfMemory }
@@ -156,7 +157,7 @@ fn none(alloc: Global, room: usize) -> Result<Box<Vec<Name>>, TypeError>
     Ok(Box::new(alloc, names)?)
 }
 
-// A list of one name, with room for no more.
+// A boxed list of one name.
 fn first(alloc: Global, name: Name) -> Result<Box<Vec<Name>>, TypeError>
     ensures ok { IfOk result (λ b. b.value.items ≡ name ∷ []) }
     ensures err { IsOkUnless result TypeError.OutOfMemory }
@@ -178,7 +179,7 @@ fn copy_all(names: &[Name], alloc: Global) -> Result<Vec<Name>, TypeError>
     Ok(copies)
 }
 
-// Whether two names are the same text, with a clause that says so plainly.
+// Whether two names are the same text, stated as equality of their bytes.
 fn is_same_name(a: &Name, b: &Name) -> bool
     ensures { IsTrue result ↔ (a.now ≡ b.now) }
 {

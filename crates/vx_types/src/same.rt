@@ -1,4 +1,4 @@
-//! Equality of types, with a clause that says so plainly.
+//! Equality of types, stated as equality of their trees.
 
 ghost use Rattle.std.specs.Prelude.{◌≡◌, ◌↔◌, IsTrue};
 ghost use Rattle.vx_types.specs.Seen.{typ, typs};
@@ -8,7 +8,7 @@ use crate::names::are_same_names;
 use crate::struct_fields::StructFields;
 use crate::union_variants::UnionVariants;
 
-// Whether two types are the same tree.
+// Whether two types have the same tree.
 #[cycle(same)]
 #[tactic(auto, using(crate::proofs::Lists::decreasing))]
 pub(crate) fn is_same(a: &DType, b: &DType) -> bool

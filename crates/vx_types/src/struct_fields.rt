@@ -39,8 +39,8 @@ impl Model for StructFields {
 }
 
 impl StructFields {
-    /// Fields of these names and types. `FieldCount` exactly where there are not
-    /// as many names as types.
+    /// Fields of these names and types. `FieldCount` exactly where the lists differ
+    /// in length.
     pub fn try_new(names: Names, types: DTypes) -> Result<StructFields, TypeError>
         ensures ok { IfOk result (λ fields. fields ≡ record { names = names; types = types }) }
         ensures fit { IfOk result (λ _. length names ≡ length types) }
@@ -77,7 +77,7 @@ impl StructFields {
         Ok(StructFields { names, types })
     }
 
-    // How many levels the deepest of the types has, up to the largest number.
+    // The number of levels of the deepest of the types, capped at the largest `u64`.
     pub(crate) fn levels(&self) -> u64
         ensures levels { result ≡ min (levels_below (roses_of self.now.types)) (2 ^ 64 - 1) }
         ensures structure { IsStructure self.now.names (length self.now.types) }

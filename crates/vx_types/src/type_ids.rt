@@ -44,7 +44,7 @@ impl TypeIds {
         self.ids.as_slice()
     }
 
-    /// How many tags there are.
+    /// The number of tags.
     pub fn len(&self) -> usize
         ensures len { result ≡ length self.now }
         ensures bytes { AreBytes self.now }
@@ -52,7 +52,7 @@ impl TypeIds {
         self.ids.len()
     }
 
-    /// Whether there is no tag.
+    /// Whether the list is empty.
     pub fn is_empty(&self) -> bool
         ensures { result ≡ (length self.now == 0) }
     {

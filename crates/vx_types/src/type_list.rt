@@ -1,4 +1,4 @@
-//! What a list of types holds after its pointer.
+//! The boxed part of a list of types.
 
 ghost use Rattle.std.specs.Prelude.{◌≡◌, ◌-◌, ◌^◌, [], ◌∷◌, ◌++◌, OnOk, OnErr, IfOk, IsOkUnless, length, min};
 ghost use Rattle.vx_trees.specs.Rose.{roses_of};
@@ -12,8 +12,8 @@ use crate::levels::deeper;
 use std::alloc::Global;
 use std::marker::Model;
 
-/// Some types, in order, and how many levels the deepest has, up to the largest
-/// number. Contracts see the list of their trees.
+/// Types in order, and the number of levels of the deepest, capped at the largest
+/// `u64`. Contracts see the list of their trees.
 #[cycle(dtype)]
 #[derive(Debug, Drop)]
 pub(crate) struct TypeList {
@@ -38,7 +38,8 @@ impl Model for TypeList {
 
     ghost view = { λ a. typs a.items.items };
 
-    ghost invariant = { λ a. AreTypes (typs a.items.items) × (a.depth ≡ min (levels_below (roses_of (typs a.items.items))) (2 ^ 64 - 1)) };
+    ghost invariant = { λ a. AreTypes (typs a.items.items)
+        × (a.depth ≡ min (levels_below (roses_of (typs a.items.items))) (2 ^ 64 - 1)) };
 
     ghost size = { slice_size };
 
@@ -48,7 +49,7 @@ impl Model for TypeList {
 }
 
 impl TypeList {
-    /// No type, with room for so many.
+    /// An empty list with room for `room` types.
     pub(crate) fn with_room(alloc: Global, room: usize) -> Result<TypeList, TypeError>
         ensures ok { IfOk result (λ types. types ≡ []) }
         ensures err { IsOkUnless result TypeError.OutOfMemory }
@@ -57,7 +58,7 @@ impl TypeList {
         Ok(TypeList { items, depth: 0 })
     }
 
-    /// How many types there are.
+    /// The number of types.
     pub(crate) fn len(&self) -> usize
         ensures len { result ≡ length self.now }
         ensures types { AreTypes self.now }
@@ -72,8 +73,7 @@ impl TypeList {
         self.items.as_slice()
     }
 
-    /// One more type at the end. Where there is no memory for it, the list stays
-    /// as it was, and the type is dropped.
+    /// Appends a type. On `OutOfMemory` the list is unchanged, and the type is dropped.
     pub(crate) fn push(&mut self, dtype: DType) -> Result<(), TypeError>
         ensures ok { OnOk result (self.new ≡ self.old ++ typ dtype ∷ []) }
         ensures unchanged { OnErr result (self.new ≡ self.old) }
@@ -94,7 +94,7 @@ impl TypeList {
         TypeList { items, depth }
     }
 
-    // How many levels the deepest has, up to the largest number.
+    // The number of levels of the deepest type, capped at the largest `u64`.
     pub(crate) fn levels(&self) -> u64
         ensures levels { result ≡ min (levels_below (roses_of self.now)) (2 ^ 64 - 1) }
         ensures types { AreTypes self.now }

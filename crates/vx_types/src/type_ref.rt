@@ -11,8 +11,8 @@ use std::alloc::Global;
 use std::marker::Model;
 use std::ops::Deref;
 
-/// A type within another, as of a list's elements, and how many levels it has, up
-/// to the largest number. Contracts see its tree.
+/// A type within another, as of a list's elements, boxed, and its number of levels,
+/// capped at the largest `u64`. Contracts see its tree.
 #[cycle(dtype)]
 #[derive(Debug, Drop)]
 pub struct TypeRef {
@@ -45,7 +45,7 @@ impl Model for TypeRef {
 }
 
 impl TypeRef {
-    /// This type, kept after a pointer.
+    /// This type, boxed.
     pub fn new(alloc: Global, dtype: DType) -> Result<TypeRef, TypeError>
         ensures ok { IfOk result (λ part. part ≡ typ dtype) }
         ensures err { IsOkUnless result TypeError.OutOfMemory }
@@ -63,7 +63,7 @@ impl TypeRef {
         &self.dtype
     }
 
-    // How many levels the type has, up to the largest number.
+    // The number of levels, capped at the largest `u64`.
     pub(crate) fn levels(&self) -> u64
         ensures levels { result ≡ min (levels self.now) (2 ^ 64 - 1) }
         ensures is_type { IsType self.now }

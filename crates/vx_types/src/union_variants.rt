@@ -15,7 +15,7 @@ use std::alloc::Global;
 use std::marker::Model;
 
 /// The names of a union's members, and as many types and tags in the same order.
-/// No tag stands twice.
+/// The tags are distinct.
 #[cycle(dtype)]
 #[derive(Debug, Drop)]
 pub struct UnionVariants {
@@ -44,9 +44,9 @@ impl Model for UnionVariants {
 }
 
 impl UnionVariants {
-    /// Members of these names, types and tags. Refused exactly where the lists are
-    /// not of one length or two tags are equal: `FieldCount` tells the first,
-    /// `DuplicateTag` the second.
+    /// Members of these names, types and tags. `FieldCount` only where the lists
+    /// differ in length, `DuplicateTag` only where two tags are equal, and one of
+    /// the two wherever either holds.
     pub fn try_new(names: Names, types: DTypes, ids: TypeIds) -> Result<UnionVariants, TypeError>
         ensures ok { IfOk result (λ members. members ≡ record { names = names; types = types; ids = ids }) }
         ensures types_fit { IfOk result (λ _. length names ≡ length types) }
@@ -87,7 +87,7 @@ impl UnionVariants {
         &self.ids
     }
 
-    /// Which member has this tag, counted from 0; None if none has.
+    /// The index of the member with this tag; `None` if no member has it.
     pub fn tag_to_child_index(&self, tag: u8) -> Option<usize>
         ensures index { result ≡ position (λ id. id == tag) self.now.ids }
         ensures union { IsUnion self.now.names self.now.ids (length self.now.types) }
@@ -107,7 +107,7 @@ impl UnionVariants {
         Ok(UnionVariants { names, types, ids })
     }
 
-    // How many levels the deepest of the types has, up to the largest number.
+    // The number of levels of the deepest of the types, capped at the largest `u64`.
     pub(crate) fn levels(&self) -> u64
         ensures levels { result ≡ min (levels_below (roses_of self.now.types)) (2 ^ 64 - 1) }
         ensures union { IsUnion self.now.names self.now.ids (length self.now.types) }
@@ -117,7 +117,7 @@ impl UnionVariants {
     }
 }
 
-// Whether a tag stands twice.
+// Whether two tags are equal.
 fn has_duplicate(ids: &[u8]) -> bool
     ensures { MatchBool result (AreDistinct ids.now → ⊥) (AreDistinct ids.now) }
 {

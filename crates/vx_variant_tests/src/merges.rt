@@ -11,8 +11,8 @@ use crate::texts::is_text;
 use std::alloc::Global;
 use vx_arrays::{ArrayError, merge_typed_scalar_as_variant};
 use vx_nested_parts::parts::both;
-use vx_scalars::{Scalar, ScalarError};
-use vx_types::{DType, Nullability};
+use vx_scalars::Scalar;
+use vx_types::{DType, Nullability, TypeError};
 
 // Whether a scalar may be a fallback.
 fn is_variant(scalar: &Scalar) -> bool
@@ -44,7 +44,7 @@ fn merged(
 fn scalar_in(merged: Result<Scalar, ArrayError>) -> Made {
     match merged {
         Ok(scalar) => Ok(scalar),
-        Err(_) => Err(ScalarError::BadScalar),
+        Err(_) => Err(TypeError::BadScalar),
     }
 }
 

@@ -2,7 +2,7 @@
 
 use std::alloc::Global;
 use vx_nested_parts::parts::both;
-use vx_scalars::{Scalar, ScalarError, ScalarValue, Values, VariantRef};
+use vx_scalars::{Scalar, ScalarValue, Values, VariantRef};
 use vx_types::{
     DType, DTypes, Name, Names, Nullability, PType, PValue, StructFields, TypeError, TypeRef,
 };
@@ -13,7 +13,7 @@ const NEVER: Nullability = Nullability::NonNullable;
 pub(crate) const MAYBE: Nullability = Nullability::Nullable;
 
 /// A scalar, or why it is not made.
-pub(crate) type Made = Result<Scalar, ScalarError>;
+pub(crate) type Made = Result<Scalar, TypeError>;
 
 /// A number of 32 bits.
 pub(crate) fn small(number: i32) -> Made {
@@ -73,7 +73,7 @@ pub(crate) struct Parts {
 }
 
 /// Parts, or why one of them is not made.
-pub(crate) type Fields = Result<Parts, ScalarError>;
+pub(crate) type Fields = Result<Parts, TypeError>;
 
 /// No parts.
 pub(crate) fn none(alloc: Global) -> Fields {
@@ -94,16 +94,16 @@ fn put(mut parts: Parts, name: Name, scalar: Scalar) -> Fields {
         (Ok(()), Ok(()), Ok(())) => Ok(parts),
         _ => {
             drop(parts);
-            Err(ScalarError::OutOfMemory)
+            Err(TypeError::OutOfMemory)
         }
     }
 }
 
 // A name.
-fn name_of(alloc: Global, name: &str) -> Result<Name, ScalarError> {
+fn name_of(alloc: Global, name: &str) -> Result<Name, TypeError> {
     match Name::new(alloc, name) {
         Ok(name) => Ok(name),
-        Err(_) => Err(ScalarError::OutOfMemory),
+        Err(_) => Err(TypeError::OutOfMemory),
     }
 }
 
@@ -133,7 +133,7 @@ fn structure_of(parts: Parts, there: bool) -> Made {
         Ok(fields) => Scalar::try_new(DType::Struct(fields, MAYBE), value),
         Err(_) => {
             drop(value);
-            Err(ScalarError::BadScalar)
+            Err(TypeError::BadScalar)
         }
     }
 }
@@ -160,18 +160,18 @@ fn element_of(alloc: Global, dtype: &DType) -> Result<TypeRef, TypeError> {
 }
 
 // The type of these elements: that of the first.
-fn element(alloc: Global, types: &DTypes) -> Result<TypeRef, ScalarError> {
+fn element(alloc: Global, types: &DTypes) -> Result<TypeRef, TypeError> {
     match types.as_slice() {
         [first, ..] => match element_of(alloc, first) {
             Ok(part) => Ok(part),
-            Err(_) => Err(ScalarError::OutOfMemory),
+            Err(_) => Err(TypeError::OutOfMemory),
         },
-        [] => Err(ScalarError::BadScalar),
+        [] => Err(TypeError::BadScalar),
     }
 }
 
 // The type of the elements, and their values.
-fn elements(alloc: Global, parts: Parts) -> Result<(TypeRef, Values), ScalarError> {
+fn elements(alloc: Global, parts: Parts) -> Result<(TypeRef, Values), TypeError> {
     let part = element(alloc, &parts.types);
     drop(parts.types);
     drop(parts.names);

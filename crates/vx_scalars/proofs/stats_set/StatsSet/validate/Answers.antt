@@ -1,5 +1,6 @@
 use Rattle.std.proofs.Common.{refl, sym, ◌∙◌, true≢false}
-use Rattle.vx_scalars.specs.declared.stat.Stat.TheVariants.{Min, Max, Sum, IsSorted, IsStrictSorted, IsConstant, NullCount, UncompressedSizeInBytes, NaNCount}
+use Rattle.vx_scalars.specs.declared.stat.Stat.TheVariants.{Min, Max, Sum, IsSorted, IsStrictSorted, IsConstant}
+use Rattle.vx_scalars.specs.declared.stat.Stat.TheVariants.{NullCount, UncompressedSizeInBytes, NaNCount}
 use Rattle.vx_scalars.proofs.stats_set.StatsSet.validate.Goals as goal
 use Rattle.vx_scalars.proofs.stats_set.StatsSet.validate.Goals.{else-bounds_fit-via-then-bounds_fit+then-flags_fit+else-counts_fit, else-bounds_fit-via-then-bounds_fit+else-flags_fit, else-bounds_fit-via-else-bounds_fit}
 
