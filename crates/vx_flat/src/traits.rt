@@ -80,7 +80,7 @@ pub trait WriteFlatBuffer {
     const KIND: Self::Kind;
 
     /// The error of writing.
-    type Error: From<FlatError>;
+    type Error;
 
     /// The value's table.
     ghost table: { Self → Fields };
