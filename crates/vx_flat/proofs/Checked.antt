@@ -1,4 +1,4 @@
--- A table whose fields are judged while they are counted.
+-- A table whose fields are verified while they are counted.
 use Rattle.std.proofs.Common.{◌≡◌, ℕ, suc, Bool, true, false, ◌&&◌, cond, List, ◌∷◌, Option, Some, None, Result, Ok, Err, refl, subst, ◌+◌, arith}
 use Rattle.vx_flat.specs.declared.reading.budget.Budget.{Budget}
 use Rattle.vx_flat.specs.declared.error.FlatError.{FlatError}
@@ -103,7 +103,7 @@ pub verifies_inline : {X Y : Type 0} (r : Result X FlatError) (b : Bool) (x : Op
 verifies_inline r true x c levels w d e h = h
 verifies_inline r false x c levels w d e h = absurd cc
 
--- the own bytes of a union
+-- the inline part of a union
 module _ (m : List ℕ) (u : ℕ) (p q : Option ℕ) (i : is_inline m (Union u) p q ≡ true) where
   pub union_tag : lies m 1 p ≡ true
   union_tag = (both (lies m 1 p) (lies m 4 q && same (tag_at m p == 0) (is_none q)) i).0

@@ -1,4 +1,4 @@
--- How a builder goes on, and stops, in parts.
+-- A builder that writes in several runs, and where it stops.
 use Rattle.std.proofs.Common.{◌≡◌, ℕ, suc, zero, ◌+◌, ◌-◌, ◌<◌, ◌≤◌, false, List, [], ◌∷◌, ◌++◌, inl, inr, length, take, drop}
 use Rattle.std.proofs.Common.{refl, sym, ap, ◌∙◌, arith, append_assoc, append-nil, Option, Some, None, length-take, length-drop}
 use Rattle.std.proofs.lemmas.List.{length-append}
@@ -24,7 +24,7 @@ pub rest_runs : (b : Built) (ps qs : List Piece) → with_rest (with_rest b ps) 
 rest_runs b [] qs = refl
 rest_runs b (p ∷ ps) qs = rest_runs (with_piece (waiting b) p) ps qs
 
--- blocks to which a link points are written after others
+-- blocks for a link are written after others
 pub runs : (b : Built) (p : Piece) (ps : List Piece) (q : Piece) (qs : List Piece)
     → with_pieces (waiting (with_pieces b (p ∷ ps))) (q ∷ qs) ≡ with_pieces b ((p ∷ ps) ++ (q ∷ qs))
 runs b p ps q qs = rest_runs (with_piece b p) ps (q ∷ qs)

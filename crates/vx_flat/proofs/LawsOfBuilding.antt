@@ -1,4 +1,4 @@
--- How a builder goes on, and stops, for the writers of tables in other crates.
+-- A builder that writes in several runs, and where it stops: for the proofs of other crates.
 use Rattle.std.proofs.Common.{◌≡◌, ℕ, suc, ◌+◌, ◌-◌, ◌<◌, List, ◌∷◌, ◌++◌, Bool, false, None, ap, arith}
 use Rattle.vx_flat.specs.declared.builder.piece.LinkKind.{LinkKind}
 use Rattle.vx_flat.specs.declared.error.FlatError.{FlatError}

@@ -13,9 +13,9 @@ use Rattle.vx_flat.proofs.Agree.{one_value}
 use Rattle.vx_flat.proofs.Inverse.{layout_shows, length_is}
 use Rattle.vx_flat.proofs.Lawful.{tables_short}
 use Rattle.vx_flat.proofs.ValueWeight.{shown_weighs}
--- The fields that are told of a table are shown by it.
+-- A table shows the fields that are read from it.
 pub use Rattle.vx_flat.proofs.Agree.{table_sound}
--- A layout is as long as is told.
+-- The length of a layout.
 pub use Rattle.vx_flat.proofs.Inverse.{layout_length}
 
 -- A message shows one value at most.

@@ -30,8 +30,8 @@ seen-parts v = view_parts v
 pub place-within : (v : View) → place_seen v < length (message_seen v)
 place-within v = (view_inline v).1
 
--- What a place shows does not hang on which table is the root. So a view of a table is one of the
--- kind that has the same tables and that one as its root.
+-- What a place shows does not depend on which table is the root. So a view of a table is also a view
+-- of the kind with the same tables and that table as its root.
 pub shown-with_root : (s : Schema) (r : ℕ) (m : List ℕ) (t T : ℕ) (v : Fields) → ShowsAt s m t T v
     → ShowsAt (with_root s r) m t T v
 shown-with_root s r m t T v h = shown_at_root s r m t T v h

@@ -1,5 +1,5 @@
--- What blocks are that are written one after the other: each link is set when the block comes at
--- which it points, and in the end all blocks are those of linked pieces.
+-- Blocks that are written one after the other: each link is set when its block is written, and in
+-- the end all blocks are those of linked pieces.
 use Rattle.std.proofs.Common.{◌≡◌, refl, sym, ap, subst, ◌∙◌, arith, Bool, true, false, ℕ, zero, suc, ◌+◌, ◌-◌, ◌*◌, ◌≤◌, ◌<◌}
 use Rattle.std.proofs.Common.{List, [], ◌∷◌, ◌++◌, length, take, drop, append_assoc, append-nil, Option, Some, None, length-take, length-drop}
 use Rattle.std.specs.Prelude.{if◌then◌else◌}
@@ -211,7 +211,7 @@ module _ (places : List BlockOffsets) where
       ∙ (elements_set k n (p + 4) (i + 1) kind (m ++ b) y ls ns long (omega (arith, z))
       ∙ ap (λ q. patches places q ls (rests k ns)) back))
 
--- ---- where links aim makes no difference to a block's form
+-- ---- a block's form does not depend on the targets of its links
 
 distances_same : (es : List BlockField) (p : ℕ) (ns ms : List ℕ) → distances p (cells_of es ns) ≡ distances p (cells_of es ms)
 distances_same [] p ns ms = refl
@@ -392,7 +392,7 @@ slots_lie known (links_piece kind k) n p =
     subst (λ m. SlotsLie (element_slots n kind (p + 4) 0 k) m) e (element_slots_lie k n (p + 4) 0 kind)
 slots_lie known (text_piece bs) n p = tt
 
--- a block begins at its place and points no earlier, and ends no earlier than it points
+-- a block starts no later than its target, and its target is no later than its end
 pub targets_past : (known : Known) (q : Piece) (p : ℕ) → p ≤ (offsets known p (loose_block q)).target
 targets_past known (table_piece es) p = start_same p (cells_of es []) (known_at known (field_table_bytes (cells_of es [])))
 targets_past known (elements_piece k bs) p = omega arith

@@ -33,7 +33,7 @@ pub root_view_is : (v : View) (s : Schema) (m : List ℕ) → 4 ≤ length m →
     → v.table ≡ s.root → v.place ≡ u32_at m 0 → v.weight ≡ weight s m → IsRootView s m v
 root_view_is v s m l a b c d e = let h = view_is v s m (u32_at m 0) (weight s m) a b c d e in ((l, h.shows), h)
 
--- what was counted is the message's weight
+-- what was counted is the weight of the message
 pub weight_counted : (s : Schema) (m : List ℕ) (t T : ℕ) (l : Limits) (r q : Budget) → t ≡ u32_at m 0 → T ≡ s.root
     → 4 ≤ length m → r ≡ all_of l → Counted r l.nested (table_weight s m t T) q
     → (x y : ℕ) → x ≡ l.nested - q.levels → y ≡ l.tables - q.tables

@@ -1,4 +1,4 @@
--- A walk over a value writes its blocks, and says why it stops.
+-- The writer of a value writes its blocks, and says why it stops.
 use Rattle.std.proofs.Common.{◌≡◌, ℕ, zero, suc, ◌+◌, ◌<◌, ◌≤◌, ◌^◌, Bool, true, false, List, [], ◌∷◌, ◌++◌, inl, inr, length, map, drop}
 use Rattle.std.proofs.Common.{get_or, refl, sym, ap, subst, ◌∙◌, arith, Vec, Global, String, string_bytes, Result, Ok, Err, Some}
 use Rattle.std.specs.Prelude.{OnOk, IfErr}
@@ -50,7 +50,7 @@ cut_more b qs MessageTooLong h = let g = rest_grows b qs in omega (arith, g, h)
 cut_more b qs BadTable h = absurd h
 cut_more b qs TableLimit h = absurd h
 
--- ---- the block at which the next link points
+-- ---- the block for the next link
 
 pub next_written : {T : Type 0} (r : Result T FlatError) (old mid new : Built) (p : Piece) → mid ≡ waiting old
     → OnOk r (new ≡ with_piece mid p) → OnOk r (new ≡ with_rest old (p ∷ []))
@@ -172,7 +172,7 @@ entries_slots s (k ∷ ks) (field v vs) of =
     length-append (field_entries k v) (entries ks vs) ∙ omega (arith, a, b)
 entries_slots s _ _ of = absurd of
 
--- ---- what hangs on a field of each kind
+-- ---- the blocks below a field of each kind
 
 pub elements_below : (s : Schema) (k : FieldKind) (bs : List ℕ) → IsOfKind s k (elements bs)
     → elements_piece (element_size s k) bs ∷ [] ≡ field_pieces s k (elements bs)
@@ -236,7 +236,7 @@ told_cut r old ps qs e h = subst (λ ps. IfErr r (λ e. IsCut (with_rest old ps)
 
 -- ---- the layout
 
--- A walk over a value from nothing on writes its layout.
+-- Writing a value with an empty builder gives its layout.
 pub layout_walked : (s : Schema) (sharing : Bool) (v : Fields) (b : Built) (T : ℕ) (vs : Fields) → b ≡ nothing_by sharing
     → T ≡ s.root → vs ≡ v → IsOf s v → (with_pieces b (table_pieces s (fields_of s T) vs)).bytes ≡ layout sharing s v
 layout_walked s sharing v b T vs first root same of =

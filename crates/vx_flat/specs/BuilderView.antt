@@ -1,4 +1,4 @@
--- What the fields of a builder stand for.
+-- The model of a builder's fields.
 use Rattle.std.specs.Prelude.{◌≡◌, ℕ, ◌+◌, ◌<◌, ◌≤◌, Bool, List, [], ◌∷◌, length, reverse, Option, Some, None}
 use Rattle.vx_flat.specs.declared.builder.message.Message.{Message}
 use Rattle.vx_flat.specs.declared.builder.slot.Slot.{Slot}
@@ -11,12 +11,12 @@ abbrev pub begun : List ℕ → List ℕ
 begun [] = zeros 8
 begun (b ∷ bs) = b ∷ bs
 
--- What stands before the next block, if it is the first.
+-- The bytes before the next block, if it is the first.
 abbrev pub front : List ℕ → List ℕ
 front [] = zeros 8
 front (b ∷ bs) = []
 
--- Links lie within so many bytes.
+-- A link lies within n bytes.
 abbrev pub SlotsLie : List Slot → ℕ → Type 0
 SlotsLie [] n = Unit {0}
 SlotsLie (l ∷ ls) n = (l.place + 4 ≤ n) × SlotsLie ls n
@@ -25,8 +25,8 @@ abbrev pub SlotLies : Option Slot → ℕ → Type 0
 SlotLies None n = Unit {0}
 SlotLies (Some l) n = l.place + 4 ≤ n
 
--- The offsets of the links that are left, and of the one that waits, lie within the bytes so far.
--- Each block has some bytes, and the first one comes after eight.
+-- The offsets of the unset links lie within the bytes so far. Each block has some bytes, and the
+-- first one comes after eight.
 pub record IsOpen (m : Message) : Type 0 where
   pub left : SlotsLie (reverse m.left.items) (length m.bytes.items)
   pub waits : SlotLies m.waits (length m.bytes.items)
@@ -40,7 +40,7 @@ pub record IsSame (old new : Message) : Type 0 where
   pub left : new.left.items ≡ old.left.items
   pub waits : new.waits ≡ old.waits
 
--- What was built. The next link lies last.
+-- What was built. The list of the code has the next link last.
 abbrev pub built : Message → Known → Bool → Bool → Built
 built m known shares failed = record {
   bytes = begun m.bytes.items;

@@ -36,7 +36,7 @@ message_seen v = v.message.now
 abbrev pub weight_seen : View → Weight
 weight_seen v = v.weight
 
--- The number of the view's table, and its place in the message.
+-- The index of the view's table, and its place in the message.
 abbrev pub table_seen : View → ℕ
 table_seen v = v.table
 
@@ -59,14 +59,14 @@ kind_in v i = kind_at (kinds_in v) i
 abbrev pub part_in : View → ℕ → Field
 part_in v i = part_at (kinds_in v) (seen v) i
 
--- What kind of vector a vector's view is of, and how many elements it has.
+-- The kind of a vector, and the number of its elements.
 abbrev pub kind_seen : VectorView → FieldKind
 kind_seen v = v.kind
 
 abbrev pub count_seen : VectorView → ℕ
 count_seen v = v.count
 
--- How many bytes each of its elements has, and where the member j of an element lies in it.
+-- The size of its elements, and where the member j of an element lies in it.
 abbrev pub size_seen : VectorView → ℕ
 size_seen v = element_size (schema_of v.schema.now) v.kind
 
@@ -101,7 +101,7 @@ pub record IsElement (v : VectorView) (w : View) : Type 0 where
   pub weight : w.weight ≡ v.weight
   pub later : v.place < w.place
 
--- A union's part is its value: no member, one with its table, or a tag without one.
+-- The part of a union is its value: no member, a member with its table, or a tag without one.
 abbrev pub IsPart : View → UnionPart → Field → Type 0
 IsPart v part.None f = f ≡ absent
 IsPart v (part.Known g w) f = (f ≡ member g (seen w)) × IsBelow v w

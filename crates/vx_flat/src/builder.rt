@@ -1,4 +1,4 @@
-//! A message that is written block by block.
+//! Writes a message block by block.
 
 ghost use Rattle.std.specs.Prelude.{◌≡◌, [], ◌<◌, ◌≤◌, ◌^◌, true, false, length, None};
 ghost use Rattle.std.specs.Prelude.{IfOk, IfErr, OnOk, IsOk, IsErrOf};
@@ -37,17 +37,19 @@ use std::mem::replace;
 
 /// Writes a message block by block: each table, vector and string is a block.
 ///
-/// The first block is the root table. After a block come the blocks at which its links aim, in the
-/// order of its fields or elements, each with all that hangs on it before the next. [`link`] says
-/// which link points at the next block, and so comes before each block but the first.
+/// The first block is the root table. After a block come the blocks that its links point to, depth
+/// first, in the order of its fields or elements. [`link`] names the link that points to the next
+/// block, so it is called before each block but the first. Unlike FlatBuffers' builder, which writes
+/// from the end, this one writes a table before its children.
 ///
-/// A table whose field table equals one that was written before, byte for byte, shares the first
-/// such one.
+/// A table shares the first earlier field table that equals its own byte for byte.
 ///
-/// Each block's bytes are added at once, and the offset of the link that waits is set to it. The
-/// only refusals are allocation failure, which changes nothing, and [`FlatError::MessageTooLong`] where
-/// the message would have more than [`MAX_MESSAGE`](crate::MAX_MESSAGE) bytes. After that refusal
-/// the builder has failed: each later call has that refusal too, and [`link`] does nothing.
+/// # Errors
+///
+/// [`FlatError::OutOfMemory`], which leaves the builder unchanged, and
+/// [`FlatError::MessageTooLong`] if the message would have more than
+/// [`MAX_MESSAGE`](crate::MAX_MESSAGE) bytes. After that the builder has failed: each later call
+/// gives that error too, and [`link`] does nothing.
 ///
 /// [`link`]: Builder::link
 #[derive(Drop)]
@@ -57,14 +59,14 @@ pub struct Builder {
     known: FieldTables,
     shares: bool,
     failed: bool,
-    /// The block that is composed: its bytes, its links, and of a table the distances of its entries, its own
-    /// bytes and its field table.
+    /// Buffers for the block that is composed, kept so that each block needs no new ones: its bytes
+    /// and links, and for a table its distances, its bytes after the first four and its field table.
     block: Vec<u8>,
     links: Vec<Slot>,
     distances: Vec<u8>,
     own: Vec<u8>,
     fields: Vec<u8>,
-    /// The entries of a table, for whoever makes them of a value.
+    /// A buffer for the entries of a table.
     entries: Vec<BlockField>,
 }
 
@@ -81,29 +83,29 @@ impl Model for Builder {
 }
 
 impl Builder {
-    /// A message without a block.
+    /// A builder without blocks.
     pub fn new(alloc: Global) -> Builder
         ensures { result ≡ nothing_built }
     {
         Builder::sharing(alloc, true)
     }
 
-    /// A message without a block, with room for so many bytes where there is memory for them at
-    /// once. A message that grows from nothing leaves in the heap each room that became too small.
+    /// A builder without blocks, with room for `capacity` bytes if that can be allocated. A message
+    /// that grows step by step fragments the heap.
     pub fn with_room(alloc: Global, capacity: usize) -> Builder
         ensures { result ≡ nothing_built }
     {
         Builder::over(alloc, no_bytes(alloc, capacity), true)
     }
 
-    /// A message without a block, of which equal field tables are shared or not.
+    /// A builder without blocks. With `shares`, equal field tables are shared.
     pub(crate) fn sharing(alloc: Global, shares: bool) -> Builder
         ensures { result ≡ nothing_by shares }
     {
         Builder::over(alloc, Vec::new(alloc), shares)
     }
 
-    // A message without a block, over an empty list of bytes.
+    // A builder without blocks, with an empty buffer.
     fn over(alloc: Global, bytes: Vec<u8>, shares: bool) -> Builder
         requires { bytes.items ≡ [] }
         ensures { result ≡ nothing_by shares }
@@ -123,8 +125,8 @@ impl Builder {
         }
     }
 
-    /// A list without entries, for those of a table. [`give_back`](Builder::give_back) keeps its room
-    /// for the next one.
+    /// An empty list for the entries of a table. [`give_back`](Builder::give_back) keeps its memory for
+    /// the next table.
     pub(crate) fn take_entries(&mut self) -> Vec<BlockField>
         ensures same { self.new ≡ self.old }
         ensures none { result.items ≡ [] }
@@ -134,14 +136,14 @@ impl Builder {
         entries
     }
 
-    /// Keeps the room of a list of entries.
+    /// Keeps the memory of a list of entries.
     pub(crate) fn give_back(&mut self, entries: Vec<BlockField>)
         ensures { self.new ≡ self.old }
     {
         self.entries = entries;
     }
 
-    /// [`table`](Builder::table), whatever waits for a block.
+    /// [`table`](Builder::table), whatever link waits.
     pub(crate) fn put_table(&mut self, fields: &[BlockField]) -> Result<u32, FlatError>
         requires few { length fields.now ≤ 1000 }
         requires entries { AreEntries false fields.now }
@@ -191,8 +193,8 @@ impl Builder {
         Ok(number)
     }
 
-    /// Writes a table by the entries of its field table, with `Absent` for a field that is left
-    /// out. Gives the table's number, for [`link`](Builder::link).
+    /// Writes a table, given the entries of its field table. Returns the number of its block, for
+    /// [`link`](Builder::link).
     pub fn table(&mut self, fields: &[BlockField]) -> Result<u32, FlatError>
         requires few { length fields.now ≤ 1000 }
         requires entries { AreEntries false fields.now }
@@ -235,7 +237,7 @@ impl Builder {
         Ok(())
     }
 
-    /// Writes a vector of so many links of a kind.
+    /// Writes a vector of `count` links of a kind.
     pub(crate) fn links(&mut self, kind: LinkKind, count: usize) -> Result<(), FlatError>
         requires { count ≤ 2 ^ 61 }
         ensures written { OnOk result (self.new ≡ with_piece self.old (links_piece kind count)) }
@@ -271,7 +273,7 @@ impl Builder {
         Ok(())
     }
 
-    /// Writes a vector. Gives its number, for [`link`](Builder::link).
+    /// Writes a vector. Returns the number of its block, for [`link`](Builder::link).
     pub fn vector(&mut self, elements: BlockVector<'_>) -> Result<u32, FlatError>
         requires elements { IsVector elements }
         requires takes { Takes LinkKind.Vector self.old }
@@ -291,7 +293,7 @@ impl Builder {
         Ok(number)
     }
 
-    /// [`string`](Builder::string), whatever waits for a block.
+    /// [`string`](Builder::string), whatever link waits.
     pub(crate) fn put_text(&mut self, text: &str) -> Result<(), FlatError>
         ensures written { OnOk result (self.new ≡ with_piece self.old (text_piece text.now)) }
         ensures fits { IsOk result → length self.new.bytes < 2 ^ 31 }
@@ -331,9 +333,9 @@ impl Builder {
         self.put_text(text)
     }
 
-    /// Lets the next link point at the next block. The link is given by the number of its block, and
-    /// by its place among the table's entries or the vector's elements. The entry of a union's link
-    /// is that of its offset.
+    /// Lets the next link point to the next block. The link is named by the number of the block that
+    /// has it and by its index among the entries or elements. The index of a union's link is that of
+    /// its offset.
     pub fn link(&mut self, _block: u32, _index: usize)
         requires idle { self.old.failed ≡ false → self.old.waits ≡ None }
         requires next { self.old.failed ≡ false → IsNext self.old.left _block _index }
@@ -345,7 +347,7 @@ impl Builder {
         }
     }
 
-    /// Lets the next link, if there is one, point at the next block.
+    /// Lets the next link, if there is one, point to the next block.
     pub(crate) fn go_on(&mut self)
         ensures { self.new ≡ waiting self.old }
     {
@@ -363,7 +365,7 @@ impl Builder {
         FlatBuffer::new(bytes)
     }
 
-    /// The message. Where the blocks are those of a value, it is the value's layout.
+    /// The message. If the blocks are those of a value, it is the value's layout.
     pub fn finish(self, _alloc: Global) -> Result<FlatBuffer, FlatError>
         requires written { self.failed ≡ false → 0 < self.count }
         requires linked { self.failed ≡ false → self.left ≡ [] }
@@ -390,7 +392,7 @@ impl Builder {
     }
 }
 
-// No bytes, with room for so many where there is memory for them.
+// An empty list, with room for `capacity` bytes if that can be allocated.
 fn no_bytes(alloc: Global, capacity: usize) -> Vec<u8>
     ensures { result.items ≡ [] }
 {

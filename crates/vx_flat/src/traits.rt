@@ -1,4 +1,4 @@
-//! Values that are read from messages, and written block by block.
+//! Traits of types that are read from views and written by builders.
 
 ghost use Rattle.std.specs.Prelude.{◌≡◌, ◌<◌, ◌^◌, ◌⊎◌, false, IfOk, IfErr, OnOk, OnErr, IsOk, length};
 ghost use Rattle.vx_flat.specs.Schema.{fields_of};
@@ -33,16 +33,16 @@ pub trait ReadFlatBuffer: Sized {
     /// The kind, as a value.
     const KIND: Self::Kind;
 
-    /// Why a message or a table is not read.
+    /// The error of reading.
     type Error: From<FlatError>;
 
-    /// A table and what it is read as.
+    /// A table, and a value that it is read as.
     ghost reads: { Fields → Self → Type 0 };
 
     /// Why a table is not read. Allocation failure has no cause in the table.
     ghost unread: { Fields → Self.Error → Type 0 };
 
-    /// What a table shows: a view of the kind's root table.
+    /// Reads a view of the kind's root table.
     fn read_flatbuffer(alloc: Global, view: &View<'_>) -> Result<Self, Self::Error>
         requires { IsViewOf Self.Kind.schema Self.Kind.schema.root view.now }
         ensures read { IfOk result (λ x. reads (seen view.now) x) }
@@ -52,7 +52,7 @@ pub trait ReadFlatBuffer: Sized {
         ensures complete { (x : Self) → reads (seen view.now) x
             → IfErr result (λ e. Self.Error.from_gives OutOfMemory e) };
 
-    /// What a message's root table shows.
+    /// Verifies a message and reads its root table.
     fn read_flatbuffer_bytes(alloc: Global, message: &[u8]) -> Result<Self, Self::Error>
         ensures read { IfOk result
             (λ x. (v : Fields) × Shows Self.Kind.schema message.now v × reads v x) }
@@ -61,7 +61,7 @@ pub trait ReadFlatBuffer: Sized {
             (λ e. ((f : FlatError) × RefusesTables Self.Kind.schema message.now f × Self.Error.from_gives f e)
             ⊎ ((v : Fields) × Shows Self.Kind.schema message.now v × unread v e)) }
 
-        // What a message shows within the limits and can be read is read, unless memory runs out.
+        // A table within the limits that can be read is read, unless memory runs out.
         ensures complete { (v : Fields) (x : Self) → Shows Self.Kind.schema message.now v
             → KeepsLimits limits (weight Self.Kind.schema message.now) → reads v x
             → IfErr result (λ e. Self.Error.from_gives OutOfMemory e) }
@@ -71,7 +71,7 @@ pub trait ReadFlatBuffer: Sized {
     }
 }
 
-/// A type that is written as a table, block by block.
+/// A type that is written as a table.
 pub trait WriteFlatBuffer {
     /// The kind of its messages.
     type Kind: TableKind + Drop;
@@ -79,8 +79,8 @@ pub trait WriteFlatBuffer {
     /// The kind, as a value.
     const KIND: Self::Kind;
 
-    /// Why a value is not written.
-    type Error: From<FlatError>;
+    /// The error of writing.
+    type Error;
 
     /// The value's table.
     ghost table: { Self → Fields };
@@ -88,9 +88,8 @@ pub trait WriteFlatBuffer {
     /// Why a value is not written by a builder.
     ghost unwritten: { Self → Built → Self.Error → Type 0 };
 
-    /// Writes the blocks of the value, its table first, after those that the builder has. Ok means
-    /// that the builder had not failed. After a refusal the builder keeps the blocks that it has,
-    /// and those of the value that were written so far.
+    /// Writes the blocks of the value, its table first, after those that the builder has. After an
+    /// error the builder keeps its blocks, and those of the value that were written so far.
     fn write_flatbuffer(&self, alloc: Global, builder: &mut Builder) -> Result<(), Self::Error>
         requires { Takes LinkKind.Table builder.old }
         ensures of_kind { IsOk result → IsOf Self.Kind.schema (table self.now) }
@@ -105,9 +104,9 @@ pub trait WriteFlatBuffer {
         ensures cause { IfErr result (λ e. unwritten self.now builder.old e) };
 }
 
-/// The message of a value.
+/// Writes a value as a message.
 pub trait WriteFlatBufferExt: WriteFlatBuffer + FlatBufferRoot {
-    /// The message whose root is the value's table: its layout.
+    /// The message whose root is the value's table: the layout of that table.
     fn write_flatbuffer_bytes(&self, alloc: Global) -> Result<FlatBuffer, Self::Error>
         ensures of_kind { IsOk result → IsOf Self.Kind.schema (Self.table self.now) }
         ensures written { IfOk result

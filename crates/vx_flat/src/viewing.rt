@@ -1,5 +1,4 @@
-//! Views of messages that were verified: each lends the parts of one value, without a check, a
-//! refusal or memory.
+//! Views of verified messages. An access to a part checks nothing, cannot fail and allocates nothing.
 
 ghost use Rattle.std.specs.Prelude.{◌≡◌, ◌<◌, ◌≤◌, length, Some, IsSome, IsTrue};
 ghost use Rattle.vx_flat.specs.Schema.{fields_of, is_lawful};
@@ -19,7 +18,7 @@ use crate::weight::Weight;
 pub use opening::{verify, verify_to, verify_uncounted, verify_uncounted_to, view_at};
 use std::str::from_utf8_unchecked;
 
-/// A table of a message that was verified.
+/// A table of a verified message.
 #[derive(Clone, Copy, Debug)]
 pub struct View<'a> {
     message: &'a [u8],
@@ -33,7 +32,7 @@ pub struct View<'a> {
     ghost shown: { IsSome (table_shown (schema_of schema.now) message.now place table) },
 }
 
-/// A vector of a message that was verified.
+/// A vector of a verified message.
 #[derive(Clone, Copy, Debug)]
 pub struct VectorView<'a> {
     message: &'a [u8],
@@ -48,14 +47,14 @@ pub struct VectorView<'a> {
         (λ q T. table_shown (schema_of schema.now) message.now q T) message.now kind place) },
 }
 
-/// What a union has.
+/// The value of a union.
 #[derive(Clone, Copy, Debug)]
 pub enum UnionPart<'a> {
     /// No member.
     None,
     /// A member: its tag and its table.
     Known(u8, View<'a>),
-    /// A tag that the schema does not have. What hangs on it is not looked at.
+    /// A tag that the schema does not have. Its table was not verified.
     Unknown(u8),
 }
 
@@ -63,7 +62,7 @@ impl<'a> View<'a> {
     ghost use Rattle.vx_flat.specs.Shows.{ShowsAt};
     ghost use Rattle.vx_flat.specs.Seen.{seen, schema_in, message_seen, weight_seen, table_seen, place_seen};
 
-    /// Where the table is in the message. The message shows the view's value there.
+    /// The place of the table in the message, for [`view_at`].
     pub fn place(&self) -> usize
         ensures place { result ≡ place_seen self.now }
         ensures within { result < length (message_seen self.now) }
@@ -73,7 +72,7 @@ impl<'a> View<'a> {
         self.place
     }
 
-    /// What the message weighs that was verified.
+    /// What the whole message weighs.
     pub fn weight(&self) -> Weight
         ensures { result ≡ weight_seen self.now }
     {
@@ -112,8 +111,8 @@ impl<'a> View<'a> {
         unreachable!()
     }
 
-    /// Whether a field that is not a union is absent. It is asked before the field's kind, which is
-    /// looked for from the front of the table's list.
+    /// Whether a field that is not a union is absent. This is tested before the field's kind, which
+    /// takes a search of the table's list.
     fn is_absent(&self, field: usize) -> bool
         ensures there { result ≡ false
             → IsSome (placed self.now.message.now self.now.place self.now.fields field) }
@@ -123,7 +122,7 @@ impl<'a> View<'a> {
         place_of(self.message, self.place, self.fields, field).is_none()
     }
 
-    /// Where a field lies that is not a union and not absent.
+    /// The place of a field that is present and not a union.
     fn place_in(&self, field: usize, kind: FieldKind) -> usize
         requires kind { kind_in self.now field ≡ Some kind }
         requires plain { is.IsPlain kind }
@@ -140,7 +139,7 @@ impl<'a> View<'a> {
         }
     }
 
-    /// Where a field of a kind that is not a union lies; None where it is absent.
+    /// The place of a field that is not a union; None if it is absent.
     #[inline(always)]
     fn find(&self, field: usize, kind: FieldKind) -> Option<usize>
         requires kind { kind_in self.now field ≡ Some kind }
@@ -155,7 +154,7 @@ impl<'a> View<'a> {
         place_of(self.message, self.place, self.fields, field)
     }
 
-    /// [`number`](View::number) where the caller knows its width.
+    /// [`number`](View::number) for a known width.
     #[inline(always)]
     pub fn number_of(&self, field: usize, width: Width) -> u64
         requires { kind_in self.now field ≡ Some (kind.Number width) }
@@ -167,7 +166,7 @@ impl<'a> View<'a> {
         }
     }
 
-    /// [`opt_number`](View::opt_number) where the caller knows that it is a number, and its width.
+    /// [`opt_number`](View::opt_number) for a number of a known width.
     #[inline(always)]
     pub fn opt_number_of(&self, field: usize, width: Width) -> Option<u64>
         requires { kind_in self.now field ≡ Some (kind.OptNumber width) }
@@ -180,7 +179,7 @@ impl<'a> View<'a> {
         }
     }
 
-    /// [`opt_number`](View::opt_number) where the caller knows that it is a flag.
+    /// [`opt_number`](View::opt_number) for a flag.
     #[inline(always)]
     pub fn opt_flag(&self, field: usize) -> Option<u64>
         requires { kind_in self.now field ≡ Some kind.OptFlag }
@@ -193,7 +192,7 @@ impl<'a> View<'a> {
         }
     }
 
-    /// [`bytes`](View::bytes) where the caller knows that they are numbers, and their width.
+    /// [`bytes`](View::bytes) for numbers of a known width.
     #[inline(always)]
     pub fn numbers_of(&self, field: usize, width: Width) -> Option<&'a [u8]>
         requires { kind_in self.now field ≡ Some (kind.Vector width) }
@@ -209,7 +208,7 @@ impl<'a> View<'a> {
         }
     }
 
-    /// [`table`](View::table) where the caller knows its number.
+    /// [`table`](View::table) for a known table.
     #[inline(always)]
     pub fn table_of(&self, field: usize, table: u16) -> Option<View<'a>>
         requires { kind_in self.now field ≡ Some (kind.Table table) }
@@ -224,7 +223,7 @@ impl<'a> View<'a> {
         }
     }
 
-    /// [`vector`](View::vector) where the caller knows its kind.
+    /// [`vector`](View::vector) for a known kind.
     #[inline(always)]
     pub fn vector_of(&self, field: usize, kind: FieldKind) -> Option<VectorView<'a>>
         requires kind { kind_in self.now field ≡ Some kind }
@@ -249,7 +248,7 @@ impl<'a> View<'a> {
         })
     }
 
-    /// The number in a field, by its bits.
+    /// The number in a field, as its bits.
     pub fn number(&self, field: usize) -> u64
         requires { is.IsNumber (kind_in self.now field) }
         ensures { part_in self.now field ≡ value.number result }
@@ -275,7 +274,7 @@ impl<'a> View<'a> {
         self.message[self.place_in(field, FieldKind::Flag)] != 0
     }
 
-    /// The number or flag in a field that may be missing.
+    /// The number or flag in a field without a default.
     pub fn opt_number(&self, field: usize) -> Option<u64>
         requires { is.IsOptional (kind_in self.now field) }
         ensures { MatchOption result (part_in self.now field ≡ value.absent)
@@ -396,7 +395,7 @@ impl<'a> View<'a> {
         })
     }
 
-    /// The tag of a union, and what its offset points at.
+    /// The tag of a union, and the place that its offset points to.
     fn member(&self, field: usize, union: u16) -> Option<(u8, usize)>
         requires { kind_in self.now field ≡ Some (kind.Union union) }
         ensures none { IfNone result (part_in self.now field ≡ value.absent) }
@@ -418,7 +417,7 @@ impl<'a> View<'a> {
         }
     }
 
-    /// What a union has.
+    /// The value of a union.
     pub fn union_part(&self, field: usize) -> UnionPart<'a>
         requires { is.IsUnion (kind_in self.now field) }
         ensures part { IsPart self.now result (part_in self.now field) }
@@ -442,7 +441,7 @@ impl<'a> VectorView<'a> {
     ghost use Rattle.vx_flat.specs.Seen.{vector_seen, seen, IsElement, kind_seen, count_seen, size_seen, member_seen, table_seen};
     ghost use Rattle.vx_flat.specs.declared.schema.FieldKind.TheVariants as kind;
 
-    /// How many elements the vector has.
+    /// The number of elements.
     pub fn len(&self) -> usize
         ensures count { result ≡ count_seen self.now }
         ensures elements { is.HasElements (size_seen self.now) (vector_seen self.now) result }
@@ -450,7 +449,7 @@ impl<'a> VectorView<'a> {
         self.count as usize
     }
 
-    /// How many bytes an element has.
+    /// The size of an element.
     fn size(&self) -> usize
         ensures value { result ≡ size_seen self.now }
         ensures small { result ≤ 8000 }
@@ -462,7 +461,7 @@ impl<'a> VectorView<'a> {
         }
     }
 
-    /// A number of an element: its member 0, unless the elements are structs.
+    /// Member `member` of element `i`, as its bits. An element that is a number is its own member 0.
     #[inline]
     pub fn number(&self, i: usize, member: usize) -> u64
         requires within { i < count_seen self.now }
@@ -485,7 +484,7 @@ impl<'a> VectorView<'a> {
         }
     }
 
-    /// A string.
+    /// The string of element `i`.
     pub fn text(&self, i: usize) -> &'a str
         requires within { i < count_seen self.now }
         requires kind { kind_seen self.now ≡ kind.Texts }
@@ -497,7 +496,7 @@ impl<'a> VectorView<'a> {
         )
     }
 
-    /// A table.
+    /// The table of element `i`.
     #[inline(always)]
     pub fn table(&self, i: usize) -> View<'a>
         requires within { i < count_seen self.now }
@@ -522,14 +521,14 @@ impl<'a> VectorView<'a> {
     }
 }
 
-/// Where a member of a struct lies in it.
+/// A member of a struct: its offset and width.
 #[derive(Clone, Copy, Debug)]
 struct MemberPlace {
     place: usize,
     width: Width,
 }
 
-/// Where a member of a struct of these widths lies in it.
+/// The member of a struct whose members have these widths.
 fn member_of(widths: &[Width], member: usize) -> MemberPlace
     requires few { length widths.now ≤ 1000 }
     requires there { member < length widths.now }
@@ -548,7 +547,7 @@ fn member_of(widths: &[Width], member: usize) -> MemberPlace
     unreachable!()
 }
 
-/// The field table of a table that is shown. Its form is not judged again.
+/// The field table of a verified table, without another check.
 #[inline(always)]
 fn fields_found(message: &[u8], _schema: &SchemaLists, place: usize, table: u16) -> FieldTable
     requires { IsSome (table_shown (schema_of _schema.now) message.now place table) }
@@ -561,7 +560,7 @@ fn fields_found(message: &[u8], _schema: &SchemaLists, place: usize, table: u16)
     }
 }
 
-/// The bytes of the elements of a vector that is shown.
+/// The bytes of the elements of a verified vector.
 fn elements_in(message: &[u8], place: usize, size: usize) -> &[u8]
     requires small { size ≤ 8000 }
     requires shown { IsSome (elements_shown message.now place size) }
@@ -571,12 +570,12 @@ fn elements_in(message: &[u8], place: usize, size: usize) -> &[u8]
     &message[place + 4..place + 4 + len]
 }
 
-/// A string that is shown.
+/// A verified string.
 fn text_in(message: &[u8], place: usize) -> &str
     requires { IsSome (text_shown message.now place) }
     ensures { text_shown message.now place ≡ Some result.now }
 {
     let len = u32_at(message, place) as usize;
-    // What is shown as a string is UTF-8.
+    // A verified string is UTF-8.
     unsafe { from_utf8_unchecked(&message[place + 4..place + 4 + len]) }
 }

@@ -1,4 +1,4 @@
-//! Messages that are written block by block.
+//! Messages that are written by a builder.
 
 ghost use Rattle.std.specs.Prelude.{◌≡◌, ◌∷◌, [], OnOk};
 ghost use Rattle.vx_flat.specs.Building.{Takes, with_pieces};
@@ -13,7 +13,7 @@ use vx_flat::{
     write_value,
 };
 
-/// An entry that is left out.
+/// An absent entry.
 const ABSENT: BlockField = BlockField::Absent;
 
 const TABLE: BlockField = BlockField::Link(LinkKind::Table);
@@ -97,7 +97,7 @@ const EVERY: [BlockField; 22] = [
     ABSENT,
 ];
 
-/// A vector of two strings, with them.
+/// A vector of two strings, and the strings.
 fn two_texts(first: &str, second: &str, builder: &mut Builder) -> Result<(), FlatError>
     requires { Takes LinkKind.Vector builder.old }
     ensures { OnOk result (builder.new ≡ with_pieces builder.old
@@ -114,7 +114,7 @@ fn two_texts(first: &str, second: &str, builder: &mut Builder) -> Result<(), Fla
     Ok(())
 }
 
-/// A vector of two tables of a number, with them.
+/// A vector of two tables of a number, and the tables.
 fn two_tables(builder: &mut Builder) -> Result<(), FlatError>
     requires { Takes LinkKind.Vector builder.old }
     ensures { OnOk result (builder.new ≡ with_pieces builder.old
@@ -156,7 +156,7 @@ fn every(alloc: Global) -> Result<FlatBuffer, FlatError> {
     builder.finish(alloc)
 }
 
-/// Whether a message is read, and written again as the same bytes.
+/// Whether a message is written again as the same bytes after it was read.
 fn is_read_back<K: TableKind>(
     alloc: Global,
     kind: &K,

@@ -57,7 +57,7 @@ static TYPE: SchemaLists = SchemaLists {
     structs: &[],
 };
 
-/// The messages of types, as far as the worked one goes: a primitive, as member 3.
+/// The messages of types, with one of the members alone: a primitive, as member 3.
 #[derive(Drop)]
 pub struct TypeKind;
 
@@ -128,7 +128,7 @@ static PAIR: SchemaLists = SchemaLists {
     structs: &[],
 };
 
-/// A table that has two of its own kind.
+/// A table with two fields of its own kind.
 pub struct PairKind;
 
 impl TableKind for PairKind {

@@ -1,4 +1,4 @@
-//! The tests of the crate `vx_flat`: worked messages, and what the definitions say of them.
+//! The tests of the crate `vx_flat`: worked messages, and their values and weights.
 #![tactic(auto)]
 
 #[cfg(test)]

@@ -30,9 +30,8 @@ pub const EVERY: [u8; 278] = [
     0, 0, 8, 0, 0, 0, 6, 0, 8, 0, 4, 0, 0, 0, 8, 0, 0, 0, 4, 0, 0, 0, 1, 0, 0, 0, 0x63, 0,
 ];
 
-/// An array of two nodes, one in the other, with a buffer of one byte each. The table of the second
-/// node, at 88, has the field table of the first, and its statistics have, at 184, that of the
-/// first's.
+/// An array of two nested nodes with a buffer of one byte each. The second node, at 88, shares the
+/// field table of the first, and its statistics, at 184, that of the first's.
 pub const NODES: [u8; 212] = [
     0x10, 0, 0, 0, 0, 0, 0, 0, 8, 0, 0x0c, 0, 4, 0, 8, 0, 8, 0, 0, 0, 0x1c, 0, 0, 0, 0xa8, 0, 0, 0,
     0, 0, 0, 0, 0x0e, 0, 0x14, 0, 0, 0, 4, 0, 8, 0, 0x0c, 0, 0x10, 0, 0, 0, 0x10, 0, 0, 0, 0x14, 0,
@@ -44,8 +43,8 @@ pub const NODES: [u8; 212] = [
     0, 0, 0, 0, 0, 1, 0, 0, 0,
 ];
 
-/// The value with a field of every kind, where equal field tables are shared: the tables at 200 and
-/// 240 have one.
+/// The value with a field of every kind, in the sharing form: the tables at 200 and 240 share a field
+/// table.
 pub const EVERY_SHARED: [u8; 270] = [
     0x38, 0, 0, 0, 0, 0, 0, 0, 0x30, 0, 0x44, 0, 0, 0, 4, 0, 8, 0, 0x10, 0, 0x18, 0, 0, 0, 0x1a, 0,
     0, 0, 0x1b, 0, 0, 0, 0x1c, 0, 0x20, 0, 0x24, 0, 0x28, 0, 0x2c, 0, 0x30, 0, 0x34, 0, 0x38, 0,

@@ -1,4 +1,4 @@
-//! Messages read and written, beside worked bytes.
+//! Reads and writes worked messages.
 
 use crate::kinds::{ArrayKind, EveryKind, PairKind, TypeKind};
 use crate::messages::{ARRAY, EVERY, TYPE};
@@ -7,7 +7,7 @@ use vx_flat::{
     FlatBuffer, FlatError, TableKind, TableValue, read_value, write_value, write_value_plain,
 };
 
-/// A message with some of its bytes set.
+/// A message with some of its bytes changed.
 fn with_bytes(alloc: Global, message: &[u8], set: &[(usize, u8)]) -> Result<Vec<u8>, AllocError> {
     let mut bytes = Vec::from_slice(alloc, message)?;
     for (place, byte) in set {
@@ -18,7 +18,7 @@ fn with_bytes(alloc: Global, message: &[u8], set: &[(usize, u8)]) -> Result<Vec<
     Ok(bytes)
 }
 
-/// What a value is printed as.
+/// Whether a value is printed as `text`.
 fn is_printed_as(alloc: Global, value: &TableValue, text: &str) -> bool {
     match format!(in alloc; "{value:?}") {
         Ok(printed) => printed.as_str() == text,
@@ -26,8 +26,8 @@ fn is_printed_as(alloc: Global, value: &TableValue, text: &str) -> bool {
     }
 }
 
-/// Whether a message shows a value that is printed so, and is written as the message, with field tables
-/// shared or each written.
+/// Whether a message shows a value that is printed as `text` and written as the same message, with
+/// field tables shared or not.
 fn is_worked<K: TableKind>(
     alloc: Global,
     kind: &K,
@@ -64,7 +64,7 @@ fn worked_messages(rt: HostRuntime) {
     assert!(rt; is_worked(rt.alloc(), &EveryKind, false, &EVERY, EVERY_TEXT) == Ok(true));
 }
 
-/// Whether the vector of a message that is written is that message.
+/// Whether the vector of a written message has its bytes.
 fn is_a_vector(alloc: Global) -> Result<bool, FlatError> {
     let value = read_value(alloc, &TYPE, &TypeKind)?;
     let written = write_value(alloc, &TypeKind, &value)?;
@@ -76,7 +76,7 @@ fn a_message_is_a_vector(rt: HostRuntime) {
     assert!(rt; is_a_vector(rt.alloc()) == Ok(true));
 }
 
-/// Why a message with some of its bytes set is refused, or nothing.
+/// Why a message with some of its bytes changed is refused, if it is.
 fn refusal_with<K: TableKind>(
     alloc: Global,
     kind: &K,
@@ -89,7 +89,7 @@ fn refusal_with<K: TableKind>(
     }
 }
 
-/// Breaches of the form in the worked array.
+/// Ill-formed variants of the worked array.
 const BREACHES: [(&str, &[(usize, u8)]); 16] = [
     ("the root past the end", &[(0, 148)]),
     ("a root of three bytes", &[(0, 145)]),
@@ -115,7 +115,7 @@ const BREACHES: [(&str, &[(usize, u8)]); 16] = [
     ("a vector's offset to no table", &[(80, 1)]),
 ];
 
-/// Breaches in the message with a field of every kind.
+/// Ill-formed variants of the message with a field of every kind.
 const OTHER_BREACHES: [(&str, &[(usize, u8)]); 7] = [
     ("a text that is no UTF-8", &[(156, 0xff)]),
     ("a text without its zero byte", &[(158, 1)]),
@@ -145,7 +145,7 @@ fn breaches_are_refused(rt: HostRuntime) {
     }
 }
 
-/// Oddities of the worked array that are accepted.
+/// Unusual variants of the worked array that are accepted.
 const ODDITIES: [(&str, &[(usize, u8)]); 4] = [
     ("two vectors in one place", &[(52, 36)]),
     ("a vector that lies across others", &[(52, 37)]),
@@ -153,7 +153,7 @@ const ODDITIES: [(&str, &[(usize, u8)]); 4] = [
     ("a field past its field table", &[(32, 12)]),
 ];
 
-/// Oddities of the message with a field of every kind.
+/// Unusual variants of the message with a field of every kind.
 const OTHER_ODDITIES: [(&str, &[(usize, u8)]); 3] = [
     ("a flag of 7", &[(82, 7)]),
     (
@@ -181,7 +181,7 @@ fn oddities_are_accepted(rt: HostRuntime) {
     }
 }
 
-/// A message of tables, each in the one before, as its first field or as both.
+/// A message of nested tables, each in the first field of its parent, or in both.
 pub fn nested(alloc: Global, levels: usize, both: bool) -> Result<Vec<u8>, AllocError> {
     let second = if both { 8 } else { 0 };
     let mut message = Vec::from_slice(alloc, &[16, 0, 0, 0, 0, 0, 0, 0])?;
@@ -193,7 +193,7 @@ pub fn nested(alloc: Global, levels: usize, both: bool) -> Result<Vec<u8>, Alloc
     Ok(message)
 }
 
-/// Why so many tables, one in the other, are refused, or nothing.
+/// Why this many nested tables are refused, if they are.
 fn refusal_of(alloc: Global, levels: usize, both: bool) -> Option<FlatError> {
     match nested(alloc, levels, both) {
         Ok(message) => read_value(alloc, &message, &PairKind).err(),
@@ -231,7 +231,7 @@ const TEXTS: [(FlatError, &str); 4] = [
     ),
 ];
 
-/// Whether a refusal is printed so.
+/// Whether an error is printed as `text`.
 fn is_said(alloc: Global, error: FlatError, text: &str) -> bool {
     match format!(in alloc; "{error}") {
         Ok(printed) => printed.as_str() == text,

@@ -1,12 +1,12 @@
-//! Equal field tables, shared and each written.
+//! Messages with equal field tables, shared and not shared.
 
 use crate::kinds::{ArrayKind, EveryKind};
 use crate::messages::{EVERY_SHARED, NODES};
 use std::alloc::Global;
 use vx_flat::{FlatError, TableKind, read_value, write_value, write_value_plain};
 
-/// Whether what the message shows is written as the message, and in the plain form in so many
-/// bytes, which are read as the same value.
+/// Whether the value of the message is written as the message, and in the plain form as
+/// `plain_len` bytes that are read as the same value.
 fn has_both_forms<K: TableKind>(
     alloc: Global,
     kind: &K,

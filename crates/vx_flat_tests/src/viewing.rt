@@ -1,5 +1,5 @@
-//! Views: each accessor at each kind of field, present and absent, and tables that many paths
-//! reach.
+//! Views: each accessor for each kind of field, present and absent, and tables with many paths to
+//! them.
 
 ghost use Rattle.std.specs.Prelude.{◌≡◌, ◌+◌, ◌<◌, IfOk, IfSome, OnOk};
 ghost use Rattle.vx_flat.specs.Seen.{IsViewOf};
@@ -17,7 +17,7 @@ use vx_flat::{
     verify_uncounted_to, view_at,
 };
 
-/// A table without a field.
+/// A table without fields.
 const NOTHING: [u8; 12] = [8, 0, 0, 0, 4, 0, 4, 0, 4, 0, 0, 0];
 
 /// The view of a message's root.
@@ -55,7 +55,7 @@ fn flags(view: &View<'_>) -> [bool; 2]
     [view.flag(6), view.flag(7)]
 }
 
-/// How many bytes the vectors of numbers and of structs have, and the string; or none.
+/// The lengths in bytes of the vectors of numbers and structs and of the string, if present.
 fn lengths(view: &View<'_>) -> [Option<usize>; 3]
     requires { IsViewOf every_schema 0 view.now }
 {
@@ -74,7 +74,7 @@ fn lengths(view: &View<'_>) -> [Option<usize>; 3]
     [elements, structs, text]
 }
 
-/// How many elements the vectors of numbers, structs, strings and tables have, or none.
+/// The lengths of the vectors of numbers, structs, strings and tables, if present.
 fn counts(view: &View<'_>) -> [Option<usize>; 4]
     requires { IsViewOf every_schema 0 view.now }
 {
@@ -161,7 +161,7 @@ fn place_of_table(view: &View<'_>) -> Option<usize>
     }
 }
 
-/// Whether the numbers, flags and tags of the message with a field of every kind are told.
+/// Whether views give the numbers, flags and tags of the message with a field of every kind.
 fn tells_scalars(every: &View<'_>) -> bool
     requires { IsViewOf every_schema 0 every.now }
 {
@@ -171,7 +171,7 @@ fn tells_scalars(every: &View<'_>) -> bool
         && tags(every) == [Some((2, true)), Some((9, false)), None]
 }
 
-/// Whether its vectors, strings and its table are told.
+/// Whether views give its vectors, strings and table.
 fn tells_parts(every: &View<'_>) -> bool
     requires { IsViewOf every_schema 0 every.now }
 {
@@ -219,8 +219,7 @@ fn missing_fields_are_told(rt: HostRuntime) {
     }
 }
 
-/// Arrays of one another: so many levels of nodes, where each has two children in one place and the
-/// last has none.
+/// A message of nested nodes, each with two offsets to one child; the last has none.
 fn shared_children(alloc: Global, levels: usize) -> Result<Vec<u8>, AllocError> {
     let mut message = Vec::from_slice(
         alloc,
@@ -242,7 +241,7 @@ fn node<'a>(view: &View<'a>) -> Option<View<'a>>
     view.table(0)
 }
 
-/// The first of two children, if both are in one place.
+/// The first of two children, if both are at one place.
 fn child<'a>(view: &View<'a>) -> Option<View<'a>>
     requires { IsViewOf array_schema 1 view.now }
     ensures { IfSome result (λ w. IsViewOf array_schema 1 w) }
@@ -277,7 +276,7 @@ fn levels_below(root: &View<'_>) -> usize
     64
 }
 
-/// Whether the message weighs what all paths through it do.
+/// Whether the message weighs what all paths through it weigh.
 fn weighs_all_paths(message: &[u8]) -> bool {
     match root_view(message, &ArrayKind) {
         Ok(root) => {
@@ -325,7 +324,7 @@ fn weight_in_three_steps<L: Ledger>(
     Ok(root.weight())
 }
 
-/// The same, by a counter of its own.
+/// The same, with a counter of its own.
 fn weight_by<L: Ledger>(blank: Blank) -> Result<Weight, FlatError>
     requires name { blank.name ≡ L.name }
     requires parts { blank.parts ≡ L.parts }
@@ -342,7 +341,7 @@ fn steps_are_counted(rt: HostRuntime) -> Result<(), Fail> {
     Ok(())
 }
 
-/// How deep a message nests, or why it is refused, where deep trees are asked for or not.
+/// How deep a message nests, or why it is refused, with deep trees or without.
 fn nested_in(message: &[u8], deep: bool) -> Result<u64, FlatError> {
     match verify_uncounted_to(message, &PairKind, deep) {
         Ok(root) => Ok(root.weight().nested),
@@ -350,13 +349,14 @@ fn nested_in(message: &[u8], deep: bool) -> Result<u64, FlatError> {
     }
 }
 
-/// The same of so many tables, one in the other.
+/// The same of this many nested tables.
 fn nested_of(alloc: Global, levels: usize, both: bool, deep: bool) -> Result<u64, FlatError> {
     let message = nested(alloc, levels, both)?;
     nested_in(&message, deep)
 }
 
-/// How many tables are one in the other, in one field or in both, whether deep trees are asked for, and what comes of it.
+/// The number of nested tables, whether both fields point to the next one, whether deep trees are
+/// allowed, and the result.
 const NESTED: [(usize, bool, bool, Result<u64, FlatError>); 6] = [
     (64, false, false, Ok(64)),
     (65, false, false, Err(FlatError::TableLimit)),
@@ -368,8 +368,8 @@ const NESTED: [(usize, bool, bool, Result<u64, FlatError>); 6] = [
 
 #[test]
 fn nested_tables(rt: HostRuntime) {
-    for (levels, both, deep, told) in &NESTED {
-        assert_eq!(rt; nested_of(rt.alloc(), *levels, *both, *deep), *told);
+    for (levels, both, deep, expected) in &NESTED {
+        assert_eq!(rt; nested_of(rt.alloc(), *levels, *both, *deep), *expected);
     }
 }
 

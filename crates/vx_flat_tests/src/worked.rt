@@ -1,4 +1,4 @@
-//! What the definitions say of worked messages.
+//! The values, layouts and weights of worked messages.
 
 ghost use Rattle.std.specs.Prelude.{◌≡◌, Bool, true, false, IsTrue, length};
 ghost use Rattle.vx_flat.specs.Schema.{is_lawful};

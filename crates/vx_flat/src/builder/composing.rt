@@ -1,4 +1,4 @@
-//! Blocks that are composed, before they are added to a message.
+//! Composes a block before it is appended to the message.
 
 ghost use Rattle.std.specs.Prelude.{◌≡◌, ◌+◌, ◌-◌, ◌*◌, ◌++◌, ◌≤◌, ◌<◌, ◌^◌, List, [], length, true, ◌&&◌, None, OnOk};
 ghost use Rattle.vx_flat.specs.Building.{entry_slots, element_slots};
@@ -19,7 +19,7 @@ use crate::writing::numbers::{align, push_number, push_zeros};
 use crate::writing::{element_count, push_bytes, push_own};
 use std::alloc::AllocError;
 
-/// Where the next block starts: at the next multiple of 8.
+/// Where the next block starts: at the next multiple of 8, after the root offset.
 pub fn next_start(bytes: &[u8]) -> usize
     requires { length bytes.now ≤ 2 ^ 31 }
     ensures value { result ≡ form.align 8 (length (begun bytes.now)) }
@@ -32,7 +32,7 @@ pub fn next_start(bytes: &[u8]) -> usize
     align(Width::Eight, bytes.len())
 }
 
-/// Adds what stands before a block that starts at `start`: zero bytes.
+/// Appends the padding before a block that starts at `start`.
 pub fn push_front(bytes: &[u8], start: usize, out: &mut Vec<u8>) -> Result<(), AllocError>
     ensures { OnOk result (out.new.items
         ≡ out.old.items ++ (front bytes.now ++ form.zeros (start - length (begun bytes.now)))) }
@@ -44,8 +44,8 @@ pub fn push_front(bytes: &[u8], start: usize, out: &mut Vec<u8>) -> Result<(), A
     push_zeros(out, start.saturating_sub(bytes.len()))
 }
 
-/// Where a table of so many entries and this inline size goes, whose block starts at `start`, by the
-/// place of an equal field table.
+/// The place of a table's block that starts at `start`. The table has `count` entries and the size
+/// `end`; `known` is the place of an equal field table.
 pub fn table_offsets(start: usize, count: usize, end: usize, known: Option<usize>) -> BlockOffsets
     requires small { start ≤ 2 ^ 32 }
     requires few { count ≤ 1000 }
@@ -77,7 +77,7 @@ pub fn table_offsets(start: usize, count: usize, end: usize, known: Option<usize
     }
 }
 
-/// Whether the field table of a block is one that others may share.
+/// Whether later tables may share the field table of a block.
 pub fn is_shared(shares: bool, offsets: BlockOffsets) -> bool
     ensures value { result ≡ (shares && offsets.is_own) }
     ensures own { result ≡ true → offsets.is_own ≡ true }
@@ -85,7 +85,7 @@ pub fn is_shared(shares: bool, offsets: BlockOffsets) -> bool
     if shares { offsets.is_own } else { false }
 }
 
-/// Adds a table of so many entries, by its field table and its own bytes.
+/// Appends a table of `count` entries, given its field table and its bytes after the first four.
 pub fn push_table(
     offsets: BlockOffsets,
     count: usize,
@@ -104,7 +104,7 @@ pub fn push_table(
     push_bytes(own, out)
 }
 
-/// Adds a vector of numbers or structs of `size` bytes each.
+/// Appends a vector of numbers or structs of `size` bytes each.
 pub fn push_elements(
     offsets: BlockOffsets,
     size: usize,
@@ -118,7 +118,7 @@ pub fn push_elements(
     push_bytes(bytes, out)
 }
 
-/// Adds a vector of links that are still to be set.
+/// Appends a vector of unset links.
 pub fn push_links(offsets: BlockOffsets, count: u32, out: &mut Vec<u8>) -> Result<(), AllocError>
     ensures { OnOk result (out.new.items
         ≡ out.old.items ++ lay.block_bytes [] offsets (links_block (to.firsts count []))) }
@@ -128,7 +128,7 @@ pub fn push_links(offsets: BlockOffsets, count: u32, out: &mut Vec<u8>) -> Resul
     Ok(())
 }
 
-/// Adds a string.
+/// Appends a string.
 pub fn push_text(offsets: BlockOffsets, text: &[u8], out: &mut Vec<u8>) -> Result<(), AllocError>
     ensures { OnOk result (out.new.items
         ≡ out.old.items ++ lay.block_bytes [] offsets (text_block text.now)) }
@@ -138,7 +138,7 @@ pub fn push_text(offsets: BlockOffsets, text: &[u8], out: &mut Vec<u8>) -> Resul
     push_zeros(out, 1)
 }
 
-/// Adds the links of a table's entries.
+/// Appends the links of a table's entries.
 pub fn push_entry_slots(
     entries: &[BlockField],
     block: u32,
@@ -169,7 +169,7 @@ pub fn push_entry_slots(
     Ok(())
 }
 
-/// Adds the links of a vector of links, the first of which lies at `place`.
+/// Appends the links of a vector of links, the first of which lies at `place`.
 pub fn push_element_slots(
     kind: LinkKind,
     count: u32,

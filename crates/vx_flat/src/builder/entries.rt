@@ -1,4 +1,4 @@
-//! The entries of a table that is written, before its links are set.
+//! The entries of a table before its links are set.
 
 ghost use Rattle.std.specs.Prelude.{◌≡◌};
 ghost use Rattle.vx_flat.specs.Linking as to;
@@ -7,7 +7,7 @@ use crate::builder::piece::BlockField;
 use crate::schema::Width;
 use crate::writing::block::Cell;
 
-/// The width of so many bytes: 1, 2, 4 or 8.
+/// The width of 1, 2, 4 or 8 bytes.
 fn width_at(bytes: u8) -> Width
     ensures { result ≡ to.width_at bytes }
 {
@@ -19,7 +19,7 @@ fn width_at(bytes: u8) -> Width
     }
 }
 
-/// The cell of an entry, where a link points at a block.
+/// The cell of an entry. A link points to `block`.
 pub fn cell_at(entry: BlockField, block: usize) -> Cell
     ensures { result ≡ to.cell_at entry block }
 {

@@ -1,13 +1,13 @@
-//! The field tables that were written and may be shared.
+//! The written field tables that later tables may share.
 
 use indexmap::IndexMap;
 use std::alloc::{AllocError, Global};
 use std::marker::Model;
 
-/// How many field tables are looked at one by one.
+/// How many field tables are compared before the hash map is asked.
 const AT_ONCE: usize = 4;
 
-/// The bytes of field tables, with their places, in the order in which they were written.
+/// The bytes of field tables with their places, in the order of writing.
 #[derive(Drop)]
 pub struct FieldTables {
     alloc: Global,
@@ -37,8 +37,8 @@ impl FieldTables {
         }
     }
 
-    /// The place of the first field table with these bytes. The first ones that were written are looked
-    /// at before the others are searched by a hash: most messages have few.
+    /// The place of the first field table with these bytes. The first few are compared directly,
+    /// since most messages have few and hashing costs more.
     pub fn find(&self, bytes: &[u8]) -> Option<usize>
         ensures { result ≡ known_at self.now bytes.now }
     {
@@ -52,7 +52,7 @@ impl FieldTables {
         self.places.get(bytes).copied()
     }
 
-    /// One field table more, with other bytes than those before, where `interns` says so.
+    /// Adds a field table with new bytes, if `interns`.
     pub fn intern(&mut self, interns: bool, bytes: &[u8], place: usize) -> Result<(), AllocError>
         requires { interns ≡ true → known_at self.old bytes.now ≡ None }
         ensures interned { OnOk result
@@ -67,7 +67,7 @@ impl FieldTables {
         Ok(())
     }
 
-    /// Without the last field table, where it was interned.
+    /// Removes the last field table, if `interned`.
     pub fn forget(&mut self, interned: bool)
         ensures { (before : Known) (last : List ℕ × ℕ)
             → self.old ≡ (if interned then before ++ last ∷ [] else before) → self.new ≡ before }

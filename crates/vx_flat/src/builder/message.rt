@@ -1,4 +1,4 @@
-//! The bytes of a message that is written block by block, and its links that are still to be set.
+//! The bytes of a message under construction, and its unset links.
 
 ghost use Rattle.std.specs.Prelude.{◌≡◌, ◌+◌, ◌++◌, ◌≤◌, ◌<◌, ◌^◌, [], length, reverse, take, OnOk, OnErr, None};
 ghost use Rattle.vx_flat.specs.Building.{patch, targeted};
@@ -6,20 +6,20 @@ ghost use Rattle.vx_flat.specs.Building.{patch, targeted};
 use crate::builder::slot::Slot;
 use std::alloc::{AllocError, Global};
 
-/// What was written, and the links that are left.
+/// What was written so far.
 #[derive(Drop)]
 pub struct Message {
-    /// The bytes so far. The offset of a link that is still to be set is 0.
+    /// The bytes so far. The offset of an unset link is 0.
     pub bytes: Vec<u8>,
-    /// How many blocks there are.
+    /// The number of blocks.
     pub count: u32,
-    /// The links that are left, the next one last.
+    /// The unset links, the next one last.
     pub left: Vec<Slot>,
     /// The link that waits for the next block.
     pub waits: Option<Slot>,
 }
 
-/// Sets the four bytes at a place to a number.
+/// Overwrites the four bytes at a place with a number.
 fn set_number(bytes: &mut Vec<u8>, place: usize, number: u32)
     requires { place + 4 ≤ length bytes.old.items }
     ensures { bytes.new.items ≡ patch bytes.old.items place number }
@@ -33,7 +33,7 @@ fn set_number(bytes: &mut Vec<u8>, place: usize, number: u32)
     bytes[place + 3] = (fourth % 256) as u8;
 }
 
-/// Adds links, the first one last; none where memory runs out.
+/// Pushes links in reverse. If memory runs out, nothing is pushed.
 fn add_links(left: &mut Vec<Slot>, links: &mut Vec<Slot>) -> Result<(), AllocError>
     ensures added { OnOk result
         (reverse left.new.items ≡ links.old.items ++ reverse left.old.items) }
@@ -64,7 +64,7 @@ impl Message {
         }
     }
 
-    /// Sets the offset of the link that waits, or, at the first block, the place of the root table.
+    /// Sets the offset of the link that waits, or, at the first block, the root offset.
     fn target(&mut self, target: usize)
         requires begun { 4 ≤ length self.old.bytes.items }
         requires lies { SlotLies self.old.waits (length self.old.bytes.items) }
@@ -85,8 +85,8 @@ impl Message {
         }
     }
 
-    /// Adds a composed block, with what stands before it, and its links. The link that waits points
-    /// at it. Where memory runs out, nothing changes.
+    /// Appends a composed block with the padding before it, and its links, and sets the link that
+    /// waits to it. If memory runs out, nothing changes.
     pub fn add(
         &mut self,
         block: &[u8],

@@ -1,16 +1,16 @@
-//! Links that are still to be set.
+//! Unset links.
 
 use crate::builder::piece::LinkKind;
 
-/// A link that is still to be set.
+/// A link to a later block.
 #[derive(Clone, Copy, Debug, PartialEq, Eq)]
 pub struct Slot {
-    /// The number of its block.
+    /// The number of the block that has it.
     pub block: u32,
-    /// The entry or element that it is.
+    /// Its index among the entries or elements.
     pub index: u32,
-    /// What it points at.
+    /// What it points to.
     pub kind: LinkKind,
-    /// Where its offset lies.
+    /// The place of its offset.
     pub place: usize,
 }

@@ -1,4 +1,4 @@
-//! What a verifier may still count.
+//! The part of the limits that a verifier has left.
 
 ghost use Rattle.std.specs.Prelude.{◌≡◌, ℕ, suc};
 ghost use Rattle.vx_flat.specs.Counting.{Counts, all_of};
@@ -7,8 +7,8 @@ ghost use Rattle.vx_flat.specs.Weight.{bytes_alone, table_around, nothing};
 use crate::error::FlatError;
 use crate::limits::Limits;
 
-/// How many tables may still be entered, how many bytes may still be counted, and how many tables
-/// could have been nested in the deepest one that was entered.
+/// How many tables and bytes may still be counted, and how many levels were left at the deepest
+/// table so far.
 #[derive(Drop)]
 pub struct Budget {
     pub tables: u32,
@@ -41,7 +41,7 @@ impl Budget {
         Ok(())
     }
 
-    /// Counts a table in which this many may nest still, without what hangs on it.
+    /// Counts a table without its fields, in which `levels` tables may still nest.
     pub fn add_table(&mut self, levels: u32) -> Result<(), FlatError>
         ensures { Counts result self.old (suc levels) (table_around nothing) self.new }
     {

@@ -1,5 +1,5 @@
-//! Whether a message shows a value within the limits. It is found without memory, before anything
-//! is read.
+//! Whether a message shows a value within the limits. It allocates nothing, and is decided before
+//! anything is read.
 
 ghost use Rattle.std.specs.Prelude.{◌≡◌, ℕ, ◌+◌, ◌*◌, ◌^◌, ◌<◌, ◌≤◌, true, length};
 ghost use Rattle.std.specs.Prelude.{OnOk, None, if◌then◌else◌};
@@ -20,7 +20,7 @@ use crate::schema::{FieldKind, TableKind, struct_size, tag_table};
 use crate::steps::Steps;
 use std::sync::ledger::Ledger;
 
-/// Judges and counts the string at a place.
+/// Verifies and counts the string at a place.
 fn verify_text(message: &[u8], place: usize, budget: &mut Budget) -> Result<(), FlatError>
     ensures verifies { (levels : ℕ) → Verifies result (read.text_shown message.now place)
         budget.old levels (weigh.text_weight message.now place) budget.new }
@@ -32,7 +32,7 @@ fn verify_text(message: &[u8], place: usize, budget: &mut Budget) -> Result<(), 
     budget.add_bytes(5 + text.len() as u64)
 }
 
-/// Judges and counts the elements of the vector at a place, of `size` bytes each.
+/// Verifies and counts the elements of the vector at a place, of `size` bytes each.
 fn verify_elements(
     message: &[u8],
     place: usize,
@@ -50,7 +50,7 @@ fn verify_elements(
     budget.add_bytes(4 + bytes.len() as u64)
 }
 
-/// Judges and counts the strings that the `n` offsets from a place on point at.
+/// Verifies and counts the strings of the `n` offsets at a place.
 fn verify_each_text(
     message: &[u8],
     place: usize,
@@ -73,7 +73,7 @@ fn verify_each_text(
     Ok(())
 }
 
-/// Judges and counts the strings of the vector at a place.
+/// Verifies and counts the strings of the vector at a place.
 fn verify_texts(message: &[u8], place: usize, budget: &mut Budget) -> Result<(), FlatError>
     ensures verifies { (levels : ℕ) → Verifies result
         (read.vector_shown (λ q. read.text_shown message.now q) message.now place)
@@ -89,7 +89,7 @@ fn verify_texts(message: &[u8], place: usize, budget: &mut Budget) -> Result<(),
     verify_each_text(message, place + 4, n, budget)
 }
 
-/// Judges and counts the tables that the `n` offsets from a place on point at.
+/// Verifies and counts the tables of the `n` offsets at a place.
 #[cycle(verifying)]
 fn verify_each_table<K: TableKind, L: Ledger>(
     message: &[u8],
@@ -120,7 +120,7 @@ fn verify_each_table<K: TableKind, L: Ledger>(
     Ok(())
 }
 
-/// Judges and counts the tables of the vector at a place.
+/// Verifies and counts the tables of the vector at a place.
 #[cycle(verifying)]
 fn verify_tables<K: TableKind, L: Ledger>(
     message: &[u8],
@@ -147,7 +147,7 @@ fn verify_tables<K: TableKind, L: Ledger>(
     verify_each_table(message, kind, place + 4, n, table, levels, budget, steps)
 }
 
-/// Judges and counts the table that a union's offset points at, where its tag has one.
+/// Verifies and counts the member of a union, if the schema has the tag.
 #[cycle(verifying)]
 fn verify_member<K: TableKind, L: Ledger>(
     message: &[u8],
@@ -175,7 +175,7 @@ fn verify_member<K: TableKind, L: Ledger>(
     }
 }
 
-/// Judges and counts what hangs on a present field that is not a union.
+/// Verifies and counts what a present field that is not a union points to.
 #[cycle(verifying)]
 fn verify_present<K: TableKind, L: Ledger>(
     message: &[u8],
@@ -220,7 +220,7 @@ fn verify_present<K: TableKind, L: Ledger>(
     }
 }
 
-/// Judges a union's own bytes, and judges and counts what hangs on it.
+/// Verifies the inline part of a union, and verifies and counts its member.
 #[cycle(verifying)]
 #[inline(never)]
 fn verify_union<K: TableKind, L: Ledger>(
@@ -264,8 +264,8 @@ fn verify_union<K: TableKind, L: Ledger>(
     )
 }
 
-/// Judges the own bytes of the field of an entry and, where it is a union, of the entry after that,
-/// and judges and counts what hangs on it.
+/// Verifies the inline part of a field, and verifies and counts what it points to. A union has the
+/// next entry too.
 #[cycle(verifying)]
 #[inline(always)]
 fn verify_field<K: TableKind, L: Ledger>(
@@ -312,8 +312,8 @@ fn verify_field<K: TableKind, L: Ledger>(
     verify_present(message, kind, field, here, levels, budget, steps)
 }
 
-/// Why a table is refused whose fields were judged one by one: it shows nothing where the own bytes of
-/// any field are not right, whatever was found first.
+/// Why a table is refused, if `error` was found in one of its fields. A table whose inline part is
+/// ill-formed weighs nothing, so a limit may be reported only where the other fields are well-formed.
 #[cold]
 fn refusal(
     message: &[u8],
@@ -334,7 +334,7 @@ fn refusal(
     }
 }
 
-/// Judges the own bytes of the fields of a table, and judges and counts what hangs on them.
+/// Verifies the inline parts of a table's fields, and verifies and counts what they point to.
 #[cycle(verifying)]
 fn verify_fields<K: TableKind, L: Ledger>(
     message: &[u8],
@@ -372,7 +372,7 @@ fn verify_fields<K: TableKind, L: Ledger>(
     Ok(())
 }
 
-/// Judges and counts the table at a place, where `levels` tables may nest still, this one counted.
+/// Verifies and counts the table at a place. At most `levels` tables may nest, this one counted.
 #[cycle(verifying)]
 pub fn verify_table<K: TableKind, L: Ledger>(
     message: &[u8],

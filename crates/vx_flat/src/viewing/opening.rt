@@ -1,4 +1,4 @@
-//! From a message's bytes to the view of its root, and from a place that was told back to its view.
+//! Verifies a message and gives the view of its root; and restores a view from its place.
 
 ghost use Rattle.std.specs.Prelude.{◌≡◌, ◌+◌, ◌<◌, ◌≤◌, IsOk, IsErrOf, IfOk, OnOk};
 ghost use Rattle.vx_flat.specs.Value.{Fields};
@@ -19,7 +19,7 @@ use crate::weight::Weight;
 use std::marker::Brand;
 use std::sync::ledger::{Blank, Ledger};
 
-/// The view of a message's root, where the message shows a value within these limits.
+/// Verifies a message within these limits.
 fn verify_within<'a, K: TableKind, L: Ledger>(
     message: &'a [u8],
     kind: &K,
@@ -71,13 +71,14 @@ fn verify_within<'a, K: TableKind, L: Ledger>(
     })
 }
 
-/// The view of a message's root, where the message shows a value within the limits: with `deep`
-/// tables may nest 128 deep, and 64 without.
+/// Verifies a message and gives the view of its root. Tables may nest 128 deep with `deep`, and 64
+/// deep without. It allocates nothing, and takes one step for each table that it enters, at most
+/// 1,000,001. A shared part is verified once for each path to it.
 ///
-/// It takes no memory, and at most 1,000,001 steps: one for each table that it enters. The only
-/// refusals are [`FlatError::BadTable`] where the message shows no value, and
-/// [`FlatError::TableLimit`] where it passes a limit. Where a message has a fault and passes a
-/// limit too, either may come. A shared part is judged as often as a path reaches it.
+/// # Errors
+///
+/// [`FlatError::BadTable`] if the message shows no value of the schema, and
+/// [`FlatError::TableLimit`] if it exceeds a limit. If both hold, either is given.
 pub fn verify_to<'a, K: TableKind, L: Ledger>(
     message: &'a [u8],
     kind: &K,
@@ -100,7 +101,7 @@ pub fn verify_to<'a, K: TableKind, L: Ledger>(
     verify_within(message, kind, Limits::to(deep), steps)
 }
 
-/// [`verify_to`] where no deep tree is asked for: tables may nest 64 deep.
+/// [`verify_to`] without `deep`: tables may nest 64 deep.
 pub fn verify<'a, K: TableKind, L: Ledger>(
     message: &'a [u8],
     kind: &K,
@@ -122,7 +123,7 @@ pub fn verify<'a, K: TableKind, L: Ledger>(
     verify_to(message, kind, false, steps)
 }
 
-// [`verify_to`] by a counter of its own.
+// [`verify_to`] with a counter of its own.
 fn verify_by<'a, K: TableKind, L: Ledger>(
     message: &'a [u8],
     kind: &K,
@@ -147,7 +148,7 @@ fn verify_by<'a, K: TableKind, L: Ledger>(
     verify_to(message, kind, deep, &mut steps)
 }
 
-/// [`verify_to`] where nobody counts the steps.
+/// [`verify_to`] without a count of steps.
 pub fn verify_uncounted_to<'a, K: TableKind>(
     message: &'a [u8],
     kind: &K,
@@ -167,7 +168,7 @@ pub fn verify_uncounted_to<'a, K: TableKind>(
     verify_by::<K, Brand>(message, kind, deep, Blank::new(1))
 }
 
-/// [`verify`] where nobody counts the steps.
+/// [`verify`] without a count of steps.
 pub fn verify_uncounted<'a, K: TableKind>(
     message: &'a [u8],
     kind: &K,
@@ -186,8 +187,8 @@ pub fn verify_uncounted<'a, K: TableKind>(
     verify_uncounted_to(message, kind, false)
 }
 
-/// A view again, from a place that a view of this kind over the same bytes told: without a check, a
-/// refusal or memory. Its weight is the given one.
+/// Restores a view of this kind from its place in the same bytes, without a check. Its weight is the
+/// given one.
 pub fn view_at<'a, K: TableKind>(
     message: &'a [u8],
     kind: &K,

@@ -1,4 +1,4 @@
-//! The field table of a table that is written.
+//! The field table (vtable) of a table.
 
 ghost use Rattle.std.specs.Prelude.{◌≡◌, ◌+◌, ◌*◌, ◌++◌, [], ◌≤◌, ◌^◌, ℕ, true, length, OnOk, IfOk};
 ghost use Rattle.vx_flat.specs.Layout as lay;
@@ -14,8 +14,7 @@ use crate::writing::numbers::{align, push_number, push_zeros};
 use crate::writing::{push_bytes, push_cell};
 use std::alloc::AllocError;
 
-/// How far from its table a cell lies, where the cells before it end at `end`; 0 where nothing is
-/// written.
+/// The distance of a cell from its table, where the cells before it end at `end`; 0 for a gap.
 fn distance(cell: Cell, end: usize) -> usize
     requires { end ≤ 2 ^ 63 }
     ensures { result ≡ cell_form.distance cell end }
@@ -28,7 +27,7 @@ fn distance(cell: Cell, end: usize) -> usize
     }
 }
 
-/// Where the cells end with this one, counted from their table.
+/// Where the cells up to this one end, counted from their table.
 pub fn end_after(cell: Cell, end: usize) -> usize
     requires { end ≤ 2 ^ 63 }
     ensures value { result ≡ cell_form.end_after cell end }
@@ -42,8 +41,8 @@ pub fn end_after(cell: Cell, end: usize) -> usize
     }
 }
 
-/// Adds the distances of a table's entries from it, and its own bytes after the first four, in which
-/// links are still to be set. Gives the table's inline size: where the last of its bytes ends.
+/// Appends the distances of a table's entries from it, and the table's bytes after its first four,
+/// with unset links. Returns the table's size, FlatBuffers' inline size.
 pub fn push_parts(
     entries: &[BlockField],
     distances: &mut Vec<u8>,
@@ -58,7 +57,7 @@ pub fn push_parts(
         ≡ own.old.items ++ lay.cells_bytes [] 0 4 (to.cells_of entries.now [])) }
 {
     let mut end: usize = 4;
-    // The distances of entries that are left out are 0. They are added with the next other one.
+    // Absent entries have the distance 0. Runs of them are appended at once.
     let mut absent: usize = 0;
     for entry in entries {
         if is_absent(*entry) {
@@ -76,7 +75,7 @@ pub fn push_parts(
     Ok(end)
 }
 
-/// Whether an entry is left out.
+/// Whether an entry is absent.
 fn is_absent(entry: BlockField) -> bool
     ensures { (n : ℕ) → result ≡ true → to.cell_at entry n ≡ Cell.Gap }
 {
@@ -86,7 +85,7 @@ fn is_absent(entry: BlockField) -> bool
     }
 }
 
-/// Adds the field table of so many entries, of a table of this inline size.
+/// Appends the field table of `count` entries, of a table whose size is `end`.
 pub fn push_field_table(
     count: usize,
     end: usize,

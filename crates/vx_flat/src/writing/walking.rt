@@ -1,4 +1,4 @@
-//! From a value to the blocks of a builder, depth first.
+//! Writes a value with a builder, depth first.
 
 ghost use Rattle.std.specs.Prelude.{◌≡◌, ◌+◌, ◌^◌, ◌++◌, ◌∷◌, [], ◌≤◌, ℕ, length, map, string_bytes, false, Some, OnOk, IfOk, IfErr};
 ghost use Rattle.vx_flat.specs.Schema as kinds;
@@ -18,7 +18,7 @@ use crate::schema::{FieldKind, TableKind, Width, struct_size, tag_table};
 use crate::value::FieldValue;
 use std::alloc::{AllocError, Global};
 
-/// How many bytes an element of a vector of numbers or structs has.
+/// The size of an element of a vector of numbers or structs.
 fn element_size<K: TableKind>(kind: &K, field: FieldKind) -> usize
     ensures { result ≡ parts.element_size K.schema field }
 {
@@ -29,7 +29,7 @@ fn element_size<K: TableKind>(kind: &K, field: FieldKind) -> usize
     }
 }
 
-/// The number of a field's table, or of its vector's tables.
+/// The index of a field's table, or of the table of its vector.
 fn table_number(field: FieldKind) -> u16
     ensures { result ≡ parts.table_number field }
 {
@@ -40,7 +40,7 @@ fn table_number(field: FieldKind) -> u16
     }
 }
 
-/// The number of a field's union.
+/// The index of a field's union.
 fn union_number(field: FieldKind) -> u16
     ensures { result ≡ parts.union_number field }
 {
@@ -68,7 +68,7 @@ fn member_table<K: TableKind>(kind: &K, union: u16, tag: u8) -> u16
     tag_table(kind, union, tag).unwrap_or(0)
 }
 
-/// What a field's offset points at.
+/// What a field's offset points to.
 fn link_kind(field: FieldKind) -> LinkKind
     ensures { result ≡ link_kind field }
 {
@@ -92,7 +92,7 @@ fn number_of(width: Width, value: u64) -> BlockField
     BlockField::Number { width, bits: value }
 }
 
-/// The entry of a number that has a default: left out at it.
+/// The entry of a number that has a default: absent if it equals the default.
 fn default_entry(width: Width, value: u64) -> BlockField
     ensures { result ≡ piece.default_entry (kinds.width width) value }
 {
@@ -115,7 +115,7 @@ fn number_entry(field: FieldKind, value: u64) -> BlockField
     }
 }
 
-/// Adds an entry.
+/// Appends an entry.
 fn push_one(entries: &mut Vec<BlockField>, entry: BlockField) -> Result<(), AllocError>
     ensures { OnOk result (entries.new.items ≡ entries.old.items ++ (entry ∷ [])) }
 {
@@ -123,7 +123,7 @@ fn push_one(entries: &mut Vec<BlockField>, entry: BlockField) -> Result<(), Allo
     Ok(())
 }
 
-/// Adds two entries.
+/// Appends two entries.
 fn push_two(
     entries: &mut Vec<BlockField>,
     first: BlockField,
@@ -136,7 +136,7 @@ fn push_two(
     Ok(())
 }
 
-/// Adds the entries of a field.
+/// Appends the entries of a field.
 fn push_entries<K: TableKind>(
     field: FieldKind,
     value: &FieldValue,
@@ -172,7 +172,7 @@ fn push_entries<K: TableKind>(
     }
 }
 
-/// Adds the entries of a table to an empty list.
+/// Appends the entries of a table to an empty list.
 fn push_all<K: TableKind>(
     kinds: &[FieldKind],
     values: &[FieldValue],
@@ -189,7 +189,7 @@ fn push_all<K: TableKind>(
     Ok(())
 }
 
-/// Writes the block of a vector of numbers or structs, where the next link points.
+/// Writes the block of a vector of numbers or structs for the next link.
 fn write_elements(size: usize, bytes: &[u8], builder: &mut Builder) -> Result<(), FlatError>
     requires { builder.old.failed ≡ false }
     ensures written { OnOk result
@@ -201,7 +201,7 @@ fn write_elements(size: usize, bytes: &[u8], builder: &mut Builder) -> Result<()
     builder.elements(size, bytes)
 }
 
-/// Writes the block of a string, where the next link points.
+/// Writes the block of a string for the next link.
 fn write_text(text: &str, builder: &mut Builder) -> Result<(), FlatError>
     requires { builder.old.failed ≡ false }
     ensures written { OnOk result
@@ -213,7 +213,7 @@ fn write_text(text: &str, builder: &mut Builder) -> Result<(), FlatError>
     builder.put_text(text)
 }
 
-/// Writes the block of a vector of so many links of a kind, where the next link points.
+/// Writes the block of a vector of `count` links of a kind for the next link.
 fn write_links(kind: LinkKind, count: usize, builder: &mut Builder) -> Result<(), FlatError>
     requires works { builder.old.failed ≡ false }
     requires few { count ≤ 2 ^ 61 }
@@ -226,7 +226,7 @@ fn write_links(kind: LinkKind, count: usize, builder: &mut Builder) -> Result<()
     builder.links(kind, count)
 }
 
-/// Writes the blocks of a vector of strings, where the next link points.
+/// Writes the blocks of a vector of strings for the next link.
 fn write_texts(texts: &[String], builder: &mut Builder) -> Result<(), FlatError>
     requires { builder.old.failed ≡ false }
     ensures written { OnOk result (builder.new ≡ with_rest builder.old
@@ -243,7 +243,7 @@ fn write_texts(texts: &[String], builder: &mut Builder) -> Result<(), FlatError>
     Ok(())
 }
 
-/// Writes the blocks that hang on a field, where the next links aim.
+/// Writes the blocks below a field for the next links.
 #[cycle(blocks)]
 fn write_below<K: TableKind>(
     alloc: Global,
@@ -279,7 +279,7 @@ fn write_below<K: TableKind>(
     }
 }
 
-/// Writes the blocks that hang on a table's fields, where the next links aim.
+/// Writes the blocks below a table's fields for the next links.
 #[cycle(blocks)]
 fn write_fields<K: TableKind>(
     alloc: Global,
@@ -302,7 +302,7 @@ fn write_fields<K: TableKind>(
     Ok(())
 }
 
-/// Writes the blocks of a vector of tables, where the next link points.
+/// Writes the blocks of a vector of tables for the next link.
 #[cycle(blocks)]
 fn write_rows<K: TableKind>(
     alloc: Global,
@@ -328,7 +328,7 @@ fn write_rows<K: TableKind>(
     Ok(())
 }
 
-/// Writes the block of a table, and all that hangs on it.
+/// Writes the block of a table, and the blocks below it.
 #[cycle(blocks)]
 pub fn write_table<K: TableKind>(
     alloc: Global,

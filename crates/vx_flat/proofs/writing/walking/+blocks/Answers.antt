@@ -192,7 +192,7 @@ write_table-returns g n c =
           (told_cut c.write_fields.result c.give_back.new.self _ _ more c.write_fields.ensures.cut);
     }
 
--- ---- what hangs on a field
+-- ---- the blocks below a field
 
 pub write_below-write_rows-requires : goal.write_below-write_rows-requires
 write_below-write_rows-requires g n c =
