@@ -3,6 +3,7 @@
 #![tactic(auto)]
 
 use anyhow::{Context, Result, bail};
+use bench_timing::print_least;
 use std::alloc::Global;
 use std::rt::Files;
 use std::time::CpuClock;
@@ -10,7 +11,6 @@ use std::{env, fs};
 use vx_buffer::ByteBuffer;
 use vx_registry::{ArraySession, ReadContext, VortexSession};
 use vx_serde::SerializedArray;
-use bench_timing::print_least;
 use vx_type_wire::{DTypeExt, ExtSession};
 use vx_types::{DType, Id, Ids};
 

@@ -7,12 +7,12 @@ ghost use Rattle.vx_flat.specs.View.{value as value_of};
 ghost use Rattle.vx_serialized.specs.ArraySchema.{array_schema};
 
 use anyhow::{Context, Result, bail};
+use bench_timing::print_least;
 use std::rt::Files;
 use std::time::CpuClock;
 use std::{env, fs};
 use vx_flat::{FlatBuffer, read_value, write_value};
 use vx_serde::ArrayKind;
-use bench_timing::print_least;
 
 fn rewrite<R: Files + AllocGlobal + Print>(rt: &R, from: &str, to: &str) -> Result<()> {
     let message = fs::read(rt, from).context(format_args!("reading {from}"))?;

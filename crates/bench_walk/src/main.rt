@@ -9,10 +9,10 @@ ghost use Rattle.vx_flat.specs.Seen.{IsViewOf};
 ghost use Rattle.vx_serialized.specs.ArraySchema.{array_schema};
 
 use anyhow::{Context, Result, bail};
+use bench_timing::print_least;
 use std::{env, fs};
 use vx_flat::{FlatError, View, verify_uncounted};
 use vx_serde::ArrayKind;
-use bench_timing::print_least;
 use walk::walk;
 
 /// The view of a message's root table.

@@ -4,8 +4,8 @@ ghost use Rattle.std.specs.Prelude.{IsTrue};
 ghost use Rattle.vx_types.specs.Fits.{IsVariant};
 
 use crate::scalars::{
-    Fields, MAYBE, Made, extended, fixed_list, flag, list, maybe, no_structure, no_text, no_variant, none,
-    small, structure, variant, wide, with,
+    Fields, MAYBE, Made, extended, fixed_list, flag, list, maybe, no_structure, no_text,
+    no_variant, none, small, structure, variant, wide, with,
 };
 use crate::texts::is_text;
 use std::alloc::Global;
@@ -273,7 +273,13 @@ fn an_extension_over_variant_is_no_variant(rt: HostRuntime) {
     let held = extended(alloc, variant(alloc, small(5)));
     let fallback = variant(alloc, within(alloc, held, 2));
     let inner = within(alloc, no_structure(typed(alloc)), 1);
-    assert!(rt; is_text(alloc, over(alloc, inner, fallback), "v({n: v(1), s: v(v(5))})"));
+    assert!(rt;
+        is_text(
+            alloc,
+            over(alloc, inner, fallback),
+            "v({n: v(1), s: v(v(5))})"
+        )
+    );
 }
 
 // Three fields, of which two have one name.
