@@ -1,4 +1,4 @@
--- Wire trees of maps: over a list by offsets, which tells an array of its own, none tells any.
+-- Wire trees of maps: over a list by offsets, which decodes to an array of its own, a map decodes to none.
 use Rattle.std.proofs.Common.{ℕ, ◌≡◌, List, [], ◌∷◌, Option, Some, option_map, codes, refl, inl, inr}
 use Rattle.vx_flat.specs.Value.{absent}
 use Rattle.vx_trees.specs.Rose.{more, end, label}
@@ -23,7 +23,8 @@ use Rattle.vx_wire_tree.specs.Session.{SessionMeaning, Reader, shipped}
 use Rattle.vx_wire_tree.specs.DecodesTo.{DecodesTo}
 use Rattle.vx_wire_tree.specs.Written.{wire}
 
--- No byte tells the kind of offsets, and of lists that there is one element; numbers, structures and maps keep no metadata.
+-- No byte shows the kind of offsets, and for lists that there is one element; numbers, structures and maps have no
+-- metadata.
 abbrev Shows : Encoding → List ℕ → Fields → Type 0
 Shows E.list bytes f = (bytes ≡ []) × (f ≡ F.list 1 P.I32)
 Shows E.varbin bytes f = (bytes ≡ []) × (f ≡ F.varbin P.I32)
@@ -99,11 +100,11 @@ listed_matches = (
   },
 )
 
--- The list tells itself, where a list stands.
+-- The list decodes to itself, where a list stands.
 listed_told : DecodesTo codec session (wire codec session listed) (list_of entry_type) 1 listed
 listed_told = record { matched = listed_matches; dtype = refl; len = refl; sound = listed_sound; normal = λ _. (tt, ((tt, (leaf, ((tt, one_leaf), tt))), one_leaf)) }
 
--- As the entries of maps it is of the wrong shape, and the maps' node is where that shows.
+-- As the entries of maps it has the wrong shape, and the cause is at the node of the maps.
 list_as_entries : RefusesTree bad_shape codec session (wire codec session (maps listed)) map_type 1
 list_as_entries = (
   [],

@@ -1,4 +1,4 @@
--- Wire trees with nodes that nothing reads: what they tell, what is written and read back, and the causes.
+-- Wire trees with nodes that nothing reads: what they decode to, what is written and read back, and the causes.
 use Rattle.std.proofs.Common.{ℕ, ◌≡◌, List, [], ◌∷◌, Option, Some, None, Bool, true, false, bytes_eq, if◌then◌else◌, codes, replicate, refl, arith, sym, ap, ◌∙◌, subst}
 use Rattle.std.proofs.lemmas.Bool.{true≢false, false≢true}
 use Rattle.std.proofs.lemmas.Option.{same_Some}
@@ -49,14 +49,14 @@ three exponent = buffer (1 ∷ 2 ∷ 3 ∷ []) exponent
 abbrev values : Buffer
 values = buffer (four (1 ∷ 2 ∷ 3 ∷ 4 ∷ [])) 2
 
--- A node of numbers on the wire, with a field that shows no statistics, and one of this identifier over it.
+-- A node of numbers on the wire, with a field that shows no statistics, and a node of a given identifier over it.
 abbrev numbers_node : Wire
 numbers_node = node (record { id = Some name; metadata = []; buffers = Some values ∷ []; stats = text [] }) end
 
 abbrev over_numbers : List ℕ → Wire
 over_numbers id = node (record { id = Some id; metadata = 7 ∷ []; buffers = Some (three 3) ∷ []; stats = text [] }) (more numbers_node end)
 
--- Foreign nodes of these.
+-- Foreign nodes of these parts.
 abbrev kept : List ℕ → List ℕ → List Buffer → List Tree → Tree
 kept id metadata bs ts = array (text_type Nullable) 9 (B.foreign (record { id = id; metadata = metadata; buffers = bs })) ts
 
@@ -66,10 +66,10 @@ kept_over exponent t = kept (codes "x.new") (7 ∷ []) (three exponent ∷ []) (
 abbrev kept_numbers : Tree
 kept_numbers = kept name [] (values ∷ []) []
 
--- ---- what is told
+-- ---- what is decoded
 
--- Below a node that nothing reads each node is kept as it stands, though its identifier is read and its field
--- shows no statistics.
+-- Below a node that nothing reads each node is kept unchanged, though its identifier is read and its field shows no
+-- statistics.
 matched : Matches codec (session true) (over_numbers (codes "x.new")) (kept_over 3 kept_numbers)
 matched = (
   codes "x.new",
@@ -83,7 +83,8 @@ matched = (
   ),
 )
 
--- So is a root over numbers, without buffers, of which no row is known; where foreign nodes are not allowed, its identifier is refused.
+-- So is a root over numbers, without buffers, no row of which is known; where foreign nodes are not allowed, its
+-- identifier is refused.
 abbrev root_node : Wire
 root_node = node (record { id = Some (codes "x.y"); metadata = 170 ∷ []; buffers = []; stats = text [] }) (more numbers_node end)
 
@@ -151,7 +152,7 @@ other_exponent (id, e, m) = by_kept (raw_by id e m).0
 -- ---- what is written
 
 module _ (c : Codec) (s : SessionMeaning) where
-  -- A foreign node's bytes are written as they are, whatever the messages.
+  -- A foreign node's bytes are written unchanged, whatever the messages.
   kept_bytes : metadata_bytes c (told (metadata_in (label (kept_over 3 kept_numbers)) (below (kept_over 3 kept_numbers)))) ≡ 7 ∷ []
   kept_bytes = refl
 
@@ -165,9 +166,9 @@ module _ (c : Codec) (s : SessionMeaning) where
   read_back : canon c s (kept_over 3 (i32s NonNullable (1 ∷ 2 ∷ 3 ∷ 4 ∷ []) [])) ≡ kept_over 3 (kept name (c.fields_bytes F.empty) (values ∷ []) [])
   read_back = refl
 
--- ---- whom it concerns that nothing reads an identifier
+-- ---- which identifiers nothing may read
 
--- Only the topmost foreign node's identifier is to be read by nothing.
+-- Nothing may read the identifier of the topmost foreign node; below it identifiers are free.
 topmost : (b : Bool) → IsUnread (session b) (kept_over 3 kept_numbers)
 topmost b = refl
 

@@ -49,7 +49,7 @@ id_of_four = refl
 id_of_five : revised_id 5 ≡ codes "vortex.primitive.v2"
 id_of_five = refl
 
--- It writes the arrays of the old identifier.
+-- Primitives under two identifiers write arrays under the old one's entry.
 own_id : entry_id revised ≡ codes "vortex.primitive"
 own_id = refl
 
@@ -101,7 +101,7 @@ module _ (c : Codec) where
   any_four : (s : SessionMeaning) → ids_in (wire c s numbers) ≡ codes "vortex.primitive" ∷ codes "vortex.bool" ∷ []
   any_four s = refl
 
-  -- The second identifier is interned as any other, and refused where it may not come.
+  -- The second identifier is interned as any other, and refused where it is not allowed.
   two_grown : grown c two (record { ids = []; allowed = None }) five_rows ≡ Some (record { ids = codes "vortex.primitive.v2" ∷ []; allowed = None })
   two_grown = refl
 

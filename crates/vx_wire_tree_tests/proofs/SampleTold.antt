@@ -1,4 +1,4 @@
--- A wire tree of numbers, the array that it tells, and the causes of trees that tell none.
+-- A wire tree of numbers, the array that it decodes to, and the causes of trees that decode to none.
 use Rattle.std.proofs.Common.{ℕ, zero, suc, ◌≡◌, List, [], ◌∷◌, Option, Some, None, refl, sym, ap, subst, inl, inr, codes, length, arith}
 use Rattle.std.proofs.lemmas.Option.{same_Some, none-some}
 use Rattle.vx_buffer.specs.Buffer.{Buffer}
@@ -28,18 +28,18 @@ use Rattle.vx_wire_tree.specs.Matches.{Matches}
 use Rattle.vx_wire_tree.specs.Session.{SessionMeaning, Reader, shipped}
 use Rattle.vx_wire_tree.specs.Wire.{Wire}
 
--- Nulls, numbers and texts by views keep no metadata.
+-- Nulls, numbers and texts by views have no metadata.
 abbrev Shows : Encoding → List ℕ → Fields → Type 0
 Shows E.null bytes F.empty = bytes ≡ []
 Shows E.primitive bytes F.empty = bytes ≡ []
 Shows E.varbinview bytes F.empty = bytes ≡ []
 Shows _ bytes f = ⊥
 
--- So many rows are null.
+-- A count of null rows.
 abbrev nulls : ℕ → Stats
 nulls n = record no_stats { null_count = Exact (count n) }
 
--- A number tells how many rows are null.
+-- A number shows how many rows are null.
 abbrev ShowsStats : Typ → Field → Stats → Type 0
 ShowsStats d absent x = x ≡ no_stats
 ShowsStats d (number n) x = x ≡ nulls n
@@ -107,7 +107,7 @@ stats_shown ([], x) = x.none (nulls 2) refl
 stats_shown (zero ∷ path, x) = let e : None ≡ Some x.0 = x.2.child in absurd (cc)
 stats_shown (suc i ∷ path, x) = let e : None ≡ Some x.0 = x.2.child in absurd (cc)
 
--- A buffer's index without a descriptor, an encoding's index without an identifier, an identifier that nothing
+-- A buffer's index without a descriptor, an encoding's index without an identifier, and an identifier that nothing
 -- reads where that is not allowed.
 no_buffer : RefusesTree out_of_bounds codec numbers_session (numbers_of (Some name) (None ∷ [])) type 4
 no_buffer = ([], (0, refl))

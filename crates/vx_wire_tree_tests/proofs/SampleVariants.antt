@@ -1,5 +1,5 @@
--- Wire trees of variants: what they tell over a core that nothing reads, which readers of extensions know the type of a
--- typed child, and how many levels it may have.
+-- Wire trees of variants: what they decode to over a core that nothing reads, which readers of extensions know the type
+-- of a typed child, and how many levels that type may have.
 use Rattle.std.proofs.Common.{ℕ, zero, suc, ◌≡◌, List, [], ◌∷◌, Option, Some, None, option_map, Bool, true, false, codes, refl, arith, sym, subst}
 use Rattle.std.proofs.lemmas.Bool.{false≢true}
 use Rattle.std.specs.Str.{is_utf8, chars}
@@ -33,7 +33,7 @@ use Rattle.vx_wire_tree.specs.Wire.{Wire, Wires}
 
 -- ---- samples
 
--- Of variants no byte tells no type, and the byte 7 this one; flags, numbers and extensions keep no metadata.
+-- For variants no byte shows no type, and the byte 7 shows this one; booleans, numbers and extensions have no metadata.
 abbrev Shows : Typ → Encoding → List ℕ → Fields → Type 0
 Shows d E.bool bytes (F.bool zero) = bytes ≡ []
 Shows d E.primitive bytes F.empty = bytes ≡ []
@@ -129,7 +129,7 @@ typed_matches = (
 
 -- ---- which types are known
 
--- A type in which an extension stands that nothing reads is known only where such ones are allowed.
+-- A type with an extension that nothing reads is known only where such extensions are allowed.
 days_unknown : IsKnownIn no_readers (M.variant (Some days)) → ⊥
 days_unknown k = false≢true k.0
 
@@ -139,7 +139,7 @@ lists_unknown k = false≢true k.1.0.0
 days_known : IsKnownIn (session true).ext (M.variant (Some days))
 days_known = (refl, ((tt, tt), tt))
 
--- So bytes that tell it are metadata there, and are the cause elsewhere, before the core is looked at.
+-- So bytes that show it are metadata there, and are the cause elsewhere, before the core is looked at.
 days_read : IsMetadata (codec days) (session true).ext E.variant (variant_type Nullable) (7 ∷ []) (M.variant (Some days))
 unfolding is_utf8 chars encode
 days_read = record { fields = F.variant (Some days); shown = (refl, refl); meaning = refl; fair = ((refl, refl, tt), ((refl, tt), tt)); known = days_known }
@@ -161,7 +161,7 @@ days_refused = (
 
 -- ---- how many levels a type may have
 
--- Lists in lists, with so many levels over numbers.
+-- Lists in lists, n levels of them over numbers.
 abbrev deep : ℕ → Typ
 deep zero = numbers
 deep (suc n) = list_of (deep n)
@@ -182,7 +182,7 @@ forty_nine_levels = (omega arith, ((tt, tt), ((tt, tt), tt)))
 
 -- ---- extensions
 
--- The type of an extension is not told by its node: no reader is asked about it.
+-- The type of an extension does not stand in its node: no reader is asked about it.
 abbrev day_node : Wire
 day_node = node (record { id = Some (codes "vortex.primitive"); metadata = []; buffers = Some (buffer (four (1 ∷ 2 ∷ 3 ∷ 4 ∷ [])) 2) ∷ []; stats = absent }) end
 
