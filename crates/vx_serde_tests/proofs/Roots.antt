@@ -45,7 +45,7 @@ module _ (old root mid now : Built) (e : old ≡ nothing_built) (w : root ≡ wi
       let zero_is : n ≡ 0 = c ∙ ap (λ (b : Built). b.count) e in
       subst (λ k. IsNext now.left k 1) (sym zero_is) (subst (λ ls. IsNext ls 0 1) (sym left_is) (refl, refl))
 
-  -- So a vector is awaited.
+  -- So a vector is expected next.
   pub vector_awaited : (last : Built) → last ≡ waiting now → IsAwaited link.Vector last.waits last.count
   vector_awaited last h = subst (λ o. IsAwaited link.Vector o last.count) (sym (ap (λ (b : Built). b.waits) h ∙ ap next_link left_is)) refl
 

@@ -18,7 +18,7 @@ numbers = 1 ∷ 0 ∷ 0 ∷ 0 ∷ 2 ∷ 0 ∷ 0 ∷ 0 ∷ 3 ∷ 0 ∷ 0 ∷ 0 �
 abbrev pub integers : Tree
 integers = node (untold (node (primitive I32 NonNullable) end) 4 (B.primitive (record { values = record { bytes = numbers; exponent = 2 } }))) end
 
--- A context without identifiers that allows all.
+-- A context without identifiers, which allows all.
 abbrev pub no_ids : Context
 no_ids = record { ids = []; allowed = None }
 

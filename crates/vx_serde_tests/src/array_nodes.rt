@@ -25,7 +25,7 @@ fn built(alloc: Global, node: &mut ArrayNodeFlatBuffer<'_>) -> Result<FlatBuffer
     Ok(builder.finish(alloc)?)
 }
 
-// The message of an array without buffers, whose identifiers come into a context.
+// The message of an array without buffers, whose identifiers are taken into a context.
 fn message_of(
     alloc: Global,
     array: &Array,
@@ -36,7 +36,7 @@ fn message_of(
     built(alloc, &mut node)
 }
 
-// Whether that message has these bytes, and so many identifiers come.
+// Whether that message has these bytes, and the context this many identifiers.
 fn is_message(
     alloc: Global,
     array: &Array,
@@ -67,7 +67,7 @@ fn is_of_the_blob(
     Ok(same && count_of(alloc, &ctx) == Some(1))
 }
 
-// The same of three nulls.
+// The same for three nulls.
 fn are_nulls_of_the_blob(alloc: Global, session: &VortexSession) -> bool {
     match NullArray::new(alloc, 3) {
         Ok(array) => is_of_the_blob(alloc, &array, session) == Ok(true),
@@ -83,7 +83,7 @@ fn a_node_is_built(rt: HostRuntime) {
     }
 }
 
-// Whether an array's node is refused for want of a writer, and no identifier comes.
+// Whether an array's node is refused as it has no writer, and no identifier is taken.
 fn is_refused(alloc: Global, array: &Array, session: &VortexSession) -> bool {
     let mut ctx = ArrayContext::empty(alloc);
     let error = match ArrayNodeFlatBuffer::try_new(alloc, &mut ctx, session, array) {
@@ -93,7 +93,7 @@ fn is_refused(alloc: Global, array: &Array, session: &VortexSession) -> bool {
     error == Some(WireError::NotRegistered) && count_of(alloc, &ctx) == Some(0)
 }
 
-// The same of three nulls.
+// The same for three nulls.
 fn are_nulls_refused(alloc: Global, session: &VortexSession) -> bool {
     match NullArray::new(alloc, 3) {
         Ok(array) => is_refused(alloc, &array, session),

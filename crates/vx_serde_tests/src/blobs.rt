@@ -19,7 +19,7 @@ fn worked_end() -> &'static [u8] {
     &BLOB[16..]
 }
 
-// The same with another exponent and another length of its buffer.
+// The same with another exponent and another length in the descriptor of its buffer.
 fn end_of(alloc: Global, exponent: u8, size: u8) -> Result<Vec<u8>, AllocError> {
     let mut end = Vec::from_slice(alloc, worked_end())?;
     if let Some(byte) = end.get_mut(142) {
@@ -31,7 +31,7 @@ fn end_of(alloc: Global, exponent: u8, size: u8) -> Result<Vec<u8>, AllocError> 
     Ok(end)
 }
 
-// The blob of a buffer of so many bytes, aligned to two to the exponent: that end after other bytes.
+// The blob of a buffer of `size` bytes, aligned to 2^`exponent`: that end after other bytes.
 fn blob_of(alloc: Global, exponent: u8, size: u8) -> Result<Vec<u8>, AllocError> {
     let mut blob = Vec::new(alloc);
     for i in 0..size {
@@ -53,7 +53,7 @@ pub(crate) fn worked_ids(alloc: Global) -> Result<ReadContext, TypeError> {
     Ok(ReadContext::new(ids))
 }
 
-/// The encodings that are shipped, without readers of extensions.
+/// A session of the shipped encodings, without readers of extensions.
 pub(crate) fn shipped(alloc: Global) -> Result<VortexSession, WireError> {
     match ArraySession::default(alloc) {
         Ok(arrays) => Ok(VortexSession::new(arrays, ExtSession::new(alloc))),
@@ -61,7 +61,7 @@ pub(crate) fn shipped(alloc: Global) -> Result<VortexSession, WireError> {
     }
 }
 
-// The blob recoded at a type and a length, by these identifiers and encodings.
+// The blob recoded at a type and a length, with these identifiers and this session.
 fn recoded_by(
     alloc: Global,
     blob: ByteBuffer,
@@ -75,7 +75,7 @@ fn recoded_by(
     recode(alloc, blob, dtype, len, ids, ctx, session, &options)
 }
 
-// The same by the worked identifiers.
+// The same with the worked identifiers.
 fn recoded_under(
     alloc: Global,
     blob: &[u8],
@@ -91,7 +91,7 @@ fn recoded_under(
     }
 }
 
-// The blob recoded at a type and a length, by the worked identifiers and the encodings that are shipped.
+// The blob recoded at a type and a length, with the worked identifiers and the shipped encodings.
 pub(crate) fn recoded(
     alloc: Global,
     blob: &[u8],
@@ -119,7 +119,7 @@ fn is_array_of(array: &Array, kind: PType, nullability: Nullability, len: usize)
     }
 }
 
-// Whether a blob is read as numbers of a kind and written as it was.
+// Whether a blob is read as numbers of a kind, and written as the same bytes.
 fn is_written_again(
     alloc: Global,
     blob: &[u8],
@@ -136,7 +136,7 @@ fn is_written_again(
     )
 }
 
-/// How many identifiers came into a context.
+/// The number of identifiers in a context.
 pub(crate) fn count_of(alloc: Global, ctx: &ArrayContext) -> Option<usize> {
     match ctx.to_ids(alloc) {
         Ok(ids) => Some(ids.len()),
@@ -144,7 +144,7 @@ pub(crate) fn count_of(alloc: Global, ctx: &ArrayContext) -> Option<usize> {
     }
 }
 
-// The same from an empty context, which one identifier comes into.
+// The same from an empty context, which takes one identifier.
 fn comes_again(
     alloc: Global,
     blob: &[u8],
@@ -157,7 +157,7 @@ fn comes_again(
         && count_of(alloc, &ctx) == Some(1)
 }
 
-// The same of so many numbers of a width of two to the exponent, never null and nullable.
+// The same for numbers of a width of 2^`exponent` bytes, without nulls and with a nullable type.
 fn come_again(
     alloc: Global,
     kind: PType,
@@ -206,7 +206,7 @@ fn each_kind_of_number_is_written_again(rt: HostRuntime) {
     }
 }
 
-/// Why a blob is not recoded from a context, if it is.
+/// The refusal of a blob that is recoded from a context, if it is refused.
 pub(crate) fn refusal(
     alloc: Global,
     blob: &[u8],

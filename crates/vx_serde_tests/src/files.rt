@@ -31,7 +31,7 @@ pub const BLOB: [u8; 168] = [
     1, 0, 0, 0, 0, 0, 2, 0, 16, 0, 0, 0, 148, 0, 0, 0,
 ];
 
-/// The same, whose node names the second identifier.
+/// The same blob, whose node names the second identifier.
 pub const BLOB_OF_SECOND: [u8; 168] = [
     1, 0, 0, 0, 2, 0, 0, 0, 3, 0, 0, 0, 4, 0, 0, 0, 16, 0, 0, 0, 0, 0, 0, 0, 8, 0, 12, 0, 4, 0, 8,
     0, 8, 0, 0, 0, 28, 0, 0, 0, 112, 0, 0, 0, 0, 0, 0, 0, 14, 0, 24, 0, 4, 0, 8, 0, 12, 0, 16, 0,
@@ -41,7 +41,7 @@ pub const BLOB_OF_SECOND: [u8; 168] = [
     1, 0, 0, 0, 0, 0, 2, 0, 16, 0, 0, 0, 148, 0, 0, 0,
 ];
 
-/// The same, padded for position 3.
+/// The same blob, padded for position 3.
 pub const PADDED_BLOB: [u8; 173] = [
     0, 1, 0, 0, 0, 2, 0, 0, 0, 3, 0, 0, 0, 4, 0, 0, 0, 0, 0, 0, 0, 16, 0, 0, 0, 0, 0, 0, 0, 8, 0,
     12, 0, 4, 0, 8, 0, 8, 0, 0, 0, 28, 0, 0, 0, 112, 0, 0, 0, 0, 0, 0, 0, 14, 0, 20, 0, 0, 0, 4, 0,
@@ -51,8 +51,8 @@ pub const PADDED_BLOB: [u8; 173] = [
     0, 0, 0, 0, 0, 1, 0, 0, 0, 1, 0, 2, 0, 16, 0, 0, 0, 148, 0, 0, 0,
 ];
 
-/// The same by another writer: parts in another order, at places that are not aligned, with an unknown
-/// further field, and bytes of the segment that no descriptor covers.
+/// The same array by another writer: parts in another order, at places that are not aligned, with an unknown field
+/// more, and bytes of the segment that no descriptor covers.
 pub const BLOB_OF_ANOTHER: [u8; 93] = [
     255, 254, 253, 1, 0, 0, 0, 2, 0, 0, 0, 3, 0, 0, 0, 4, 0, 0, 0, 252, 5, 0, 0, 0, 170, 214, 255,
     255, 255, 19, 0, 0, 0, 5, 0, 0, 0, 7, 217, 255, 255, 255, 18, 0, 0, 0, 0, 0, 1, 0, 0, 0, 3, 0,
@@ -60,7 +60,7 @@ pub const BLOB_OF_ANOTHER: [u8; 93] = [
     0, 0, 0, 0, 4, 0, 69, 0, 0, 0,
 ];
 
-/// The identifiers of the blob, one a line.
+/// The identifiers of the blob, one on each line.
 pub const IDS: &str = "vortex.primitive\n";
 
 /// The type of nulls as a table message.
@@ -69,7 +69,7 @@ pub const NULL_TYPE: [u8; 44] = [
     0, 4, 0, 4, 0, 0, 0, 0, 0, 8, 0, 0, 0,
 ];
 
-/// The blob of nulls, however many: the message and its length. The place of the metadata is 72.
+/// The blob of nulls, of any number: the message and its length. The place of the metadata is 72.
 pub const NULL_BLOB: [u8; 144] = [
     16, 0, 0, 0, 0, 0, 0, 0, 8, 0, 12, 0, 4, 0, 8, 0, 8, 0, 0, 0, 28, 0, 0, 0, 112, 0, 0, 0, 0, 0,
     0, 0, 14, 0, 20, 0, 0, 0, 4, 0, 8, 0, 12, 0, 16, 0, 0, 0, 16, 0, 0, 0, 20, 0, 0, 0, 24, 0, 0,

@@ -44,7 +44,7 @@ fn message(alloc: Global) -> Result<ByteBuffer, WireError> {
     buffer_of(alloc, &BLOB[16..164])
 }
 
-// What a node is decoded as, as 32-bit integers of this length.
+// What a node decodes to, as 32-bit integers of this length.
 fn decoded(
     alloc: Global,
     node: &SerializedNode<'_>,
@@ -56,7 +56,7 @@ fn decoded(
     node.decode(alloc, &dtype, len, ids, session)
 }
 
-// The same by the worked identifiers.
+// The same with the worked identifiers.
 fn decoded_by(
     alloc: Global,
     node: &SerializedNode<'_>,
@@ -69,7 +69,7 @@ fn decoded_by(
     }
 }
 
-// How many rows a node tells then, or its refusal.
+// The number of rows that a node then decodes to, or its refusal.
 fn rows_by(
     alloc: Global,
     node: &SerializedNode<'_>,
@@ -80,13 +80,13 @@ fn rows_by(
     Ok(array.len())
 }
 
-// The same by the encodings that are shipped.
+// The same with the shipped encodings.
 fn rows(alloc: Global, node: &SerializedNode<'_>, len: usize) -> Result<usize, WireError> {
     let session = shipped(alloc)?;
     rows_by(alloc, node, len, &session)
 }
 
-// Whether so many rows are decoded, or so refused.
+// Whether this many rows are decoded, or this refusal is returned.
 fn tells(
     alloc: Global,
     array: &SerializedArray,
@@ -96,7 +96,7 @@ fn tells(
     rows(alloc, &array.root(), len) == told
 }
 
-// The lengths of the descriptors' buffers, of which there is one.
+// The length in the only descriptor.
 fn length_of(alloc: Global, array: &SerializedArray) -> Result<Option<usize>, WireError> {
     let lengths = array.buffer_lengths(alloc)?;
     Ok(match lengths.as_slice() {
@@ -115,7 +115,7 @@ fn is_buffer(array: &SerializedArray, bytes: &[u8], exponent: u8) -> bool {
     }
 }
 
-// Why a buffer is not given, if it is not.
+// The refusal of a buffer, if it is refused.
 fn unbuffered(array: &SerializedArray, index: usize) -> Option<WireError> {
     array.buffer(index).err()
 }
@@ -126,7 +126,7 @@ fn array_of(alloc: Global, blob: &[u8]) -> Result<SerializedArray, WireError> {
     SerializedArray::try_from_buffer(alloc, blob)
 }
 
-// The same of the worked blob with another byte at a place.
+// The same for the worked blob with another byte at a place.
 fn array_with(alloc: Global, place: usize, byte: u8) -> Result<SerializedArray, WireError> {
     let blob = blob_with(alloc, place, byte)?;
     SerializedArray::try_from_buffer(alloc, blob)
@@ -168,7 +168,7 @@ fn the_buffer_of_the_worked_blob(rt: HostRuntime) {
     }
 }
 
-// Why the worked blob with another byte at a place is refused, if it is.
+// The refusal of the worked blob with another byte at a place, if it is refused.
 fn refused_with(alloc: Global, place: usize, byte: u8) -> Option<WireError> {
     array_with(alloc, place, byte).err()
 }
@@ -188,7 +188,7 @@ fn is_out_of_bounds(alloc: Global, array: &SerializedArray) -> bool {
         && tells(alloc, array, 4, Err(WireError::OutOfBounds))
 }
 
-// Whether an array names the second identifier, which is none.
+// Whether an array names the second identifier, which does not exist.
 fn is_second(alloc: Global, array: &SerializedArray) -> bool {
     array.encoding_id() == 1 && tells(alloc, array, 4, Err(WireError::UnknownIndex))
 }
@@ -267,7 +267,7 @@ fn a_segment(rt: HostRuntime) {
     }
 }
 
-// Twenty bytes in the place of the first buffer.
+// Twenty bytes in place of the first buffer.
 fn overrides(alloc: Global) -> Result<BTreeMap<u32, ByteBuffer>, WireError> {
     let buffer = buffer_of(alloc, twenty())?;
     let mut overrides = BTreeMap::new(alloc);
@@ -275,7 +275,7 @@ fn overrides(alloc: Global) -> Result<BTreeMap<u32, ByteBuffer>, WireError> {
     Ok(overrides)
 }
 
-// The array of the worked message, of an empty segment and of these.
+// The array of the worked message, of an empty segment and of these buffers.
 fn overridden(
     alloc: Global,
     overrides: &BTreeMap<u32, ByteBuffer>,
@@ -285,7 +285,7 @@ fn overridden(
     SerializedArray::from_flatbuffer_and_segment_with_overrides(alloc, message, segment, overrides)
 }
 
-// The same of those twenty bytes.
+// The same with those twenty bytes.
 fn longer(alloc: Global) -> Result<SerializedArray, WireError> {
     let overrides = overrides(alloc)?;
     overridden(alloc, &overrides)
@@ -304,15 +304,15 @@ fn an_override_of_another_length(rt: HostRuntime) {
     }
 }
 
-// The front of a message of nodes in levels: the place of the root table, the field tables of the array, of a node with
-// metadata and children and of one with metadata alone, and the array's table, whose root follows.
+// The front of a message of nodes in levels: the place of the root table; the field tables of the array, of a node with
+// metadata and children, and of one with metadata alone; and the array's table, after which its root stands.
 const FRONT: [u8; 40] = [
     32, 0, 0, 0, 8, 0, 8, 0, 4, 0, 0, 0, 10, 0, 12, 0, 0, 0, 4, 0, 8, 0, 8, 0, 8, 0, 0, 0, 4, 0, 0,
     0, 28, 0, 0, 0, 4, 0, 0, 0,
 ];
 
-// A node with metadata and two children that are the next node: the way back to its field table, the metadata's and
-// the children's places, and those.
+// Appends a node with metadata and two children that are both the next node: the way back to its field table, the
+// places of the metadata and of the children, and these.
 fn push_node(message: &mut Vec<u8>, level: u8) -> Result<(), AllocError> {
     let back = 28 + 32 * u32::from(level);
     message.extend_from_slice(&back.to_le_bytes())?;
@@ -322,7 +322,7 @@ fn push_node(message: &mut Vec<u8>, level: u8) -> Result<(), AllocError> {
     Ok(())
 }
 
-// A node with metadata alone.
+// Appends a node with metadata alone.
 fn push_leaf(message: &mut Vec<u8>, level: u8) -> Result<(), AllocError> {
     let back = 18 + 32 * u32::from(level);
     message.extend_from_slice(&back.to_le_bytes())?;
@@ -330,8 +330,8 @@ fn push_leaf(message: &mut Vec<u8>, level: u8) -> Result<(), AllocError> {
     Ok(())
 }
 
-// A message of nodes in levels up to this one, whose two child offsets point at the one node of the next level. The
-// metadata of a node is its level.
+// A message of nodes in levels up to this one, where both child offsets of a node point at the one node of the next
+// level. The metadata of a node is its level.
 fn levels(alloc: Global, last: u8) -> Result<Vec<u8>, AllocError> {
     let mut message = Vec::from_slice(alloc, &FRONT)?;
     for level in 0..last {
@@ -355,7 +355,7 @@ fn has_twins(node: &SerializedNode<'_>, level: u8) -> bool {
         && node.child(0).metadata() == node.child(1).metadata()
 }
 
-// Whether the nodes of the levels have, and the last has no children.
+// Whether each node of the levels has, and the last one has no children.
 fn are_twins(array: &SerializedArray, last: u8) -> bool {
     let mut node = array.root();
     for level in 0..last {
@@ -375,14 +375,14 @@ fn one_node_stands_for_both_children(rt: HostRuntime) {
     }
 }
 
-// The blob of twenty such levels, of 661 bytes and their number.
+// The blob of twenty such levels: 661 bytes and their number.
 fn twenty_levels(alloc: Global) -> Result<Vec<u8>, AllocError> {
     let mut blob = levels(alloc, 19)?;
     blob.extend_from_slice(&[0x95, 0x02, 0, 0])?;
     Ok(blob)
 }
 
-// Whether it weighs too much, and nothing is added to the context.
+// Whether a blob weighs too much, and nothing is added to the context.
 fn weighs_too_much(alloc: Global, blob: &[u8]) -> bool {
     let mut ctx = ArrayContext::empty(alloc);
     blob.len() == 665
@@ -398,7 +398,7 @@ fn twenty_levels_weigh_too_much(rt: HostRuntime) {
     }
 }
 
-// The same, whose last node has metadata of two bytes, of which the message holds one.
+// The same blob, whose last node has metadata of two bytes, of which the message holds one.
 fn ill_formed_leaf(alloc: Global) -> Result<Vec<u8>, AllocError> {
     let mut blob = twenty_levels(alloc)?;
     if let Some(byte) = blob.get_mut(656) {
@@ -407,7 +407,7 @@ fn ill_formed_leaf(alloc: Global) -> Result<Vec<u8>, AllocError> {
     Ok(blob)
 }
 
-// Whether it is no table, and nothing is added to the context.
+// Whether a blob shows no table, and nothing is added to the context.
 fn is_no_table(alloc: Global, blob: &[u8]) -> bool {
     let mut ctx = ArrayContext::empty(alloc);
     refusal(alloc, blob, &DType::Null, 0, &mut ctx) == Some(WireError::BadTable)

@@ -1,4 +1,4 @@
-//! What each refusal of a blob or an array is printed as.
+//! The texts of the refusals of blobs and arrays.
 
 use std::alloc::Global;
 use vx_serde::WireError;

@@ -1,4 +1,4 @@
-//! Arrays written as blobs, and why they are not.
+//! Arrays written as blobs, and why they are refused.
 
 use crate::blobs::{are_joined, shipped, worked_blob, worked_id};
 use crate::files::PADDED_BLOB;
@@ -56,7 +56,7 @@ fn has_ids(alloc: Global, ctx: &ArrayContext, texts: &[&str]) -> bool {
     }
 }
 
-// The options of a blob that is to stand, padded, at this position.
+// The options of a blob that is padded for this position.
 fn padded(offset: usize) -> SerializeOptions {
     SerializeOptions {
         offset,
@@ -83,7 +83,7 @@ fn written_by(
     }
 }
 
-// The same by the encodings that are shipped.
+// The same with the shipped encodings.
 fn written(
     alloc: Global,
     options: &SerializeOptions,
@@ -127,7 +127,7 @@ fn begun(alloc: Global, texts: &[&str]) -> Result<ArrayContext, RegistryError> {
     }
 }
 
-// Whether the four numbers are written as a blob, from these identifiers on, which go on to be those.
+// Whether the four numbers are written as a blob from a context with these identifiers, which becomes one with those.
 fn are_written(
     alloc: Global,
     options: &SerializeOptions,
@@ -163,7 +163,7 @@ fn limited(alloc: Global, texts: &[&str]) -> Result<ArrayContext, RegistryError>
     }
 }
 
-// Whether the four numbers are refused so, and a context that allows some identifiers has taken these.
+// Whether the four numbers are refused with this refusal, and a context that allows some identifiers has taken these.
 fn are_refused(
     alloc: Global,
     session: &VortexSession,
@@ -177,7 +177,7 @@ fn are_refused(
     Ok(refused == Some(error) && has_ids(alloc, &ctx, taken))
 }
 
-// Whether the shipped encodings do not write what the context does not allow, nor for a place past any end.
+// Whether the shipped encodings refuse to write what the context does not allow, or at a place past any end.
 fn is_limited(alloc: Global, session: &VortexSession) -> bool {
     let plain = SerializeOptions::default();
     let end = padded(usize::MAX);
@@ -187,7 +187,7 @@ fn is_limited(alloc: Global, session: &VortexSession) -> bool {
         && are_refused(alloc, session, &[id], &[id], &end, WireError::WireLimit) == Ok(true)
 }
 
-// Whether the empty session does not write what the context allows.
+// Whether the empty session refuses to write what the context allows.
 fn is_unwritten(alloc: Global) -> bool {
     let session = VortexSession::new(ArraySession::empty(alloc), ExtSession::new(alloc));
     let plain = SerializeOptions::default();
