@@ -9,7 +9,7 @@ use vx_serde::{ArrayExt, Recoded, SerializeOptions, SerializedArray, WireError, 
 use vx_type_wire::ExtSession;
 use vx_types::{DType, Id, Ids, Names, Nullability, PType, PValue, TypeError};
 
-// The encodings that are shipped, without readers of extensions.
+// A session of the shipped encodings, without readers of extensions.
 fn shipped(alloc: Global) -> Result<VortexSession, WireError> {
     match ArraySession::default(alloc) {
         Ok(arrays) => Ok(VortexSession::new(arrays, ExtSession::new(alloc))),
@@ -17,7 +17,7 @@ fn shipped(alloc: Global) -> Result<VortexSession, WireError> {
     }
 }
 
-// What is told of a statistic.
+// What a set holds of a statistic.
 #[derive(Clone, Copy)]
 enum Told {
     Nothing,
@@ -64,7 +64,7 @@ fn one_number(alloc: Global, kind: PType) -> Result<Array, ArrayError> {
     PrimitiveArray::try_new(alloc, values, kind, Nullability::NonNullable, 1, None)
 }
 
-// The array with this told of one statistic.
+// The array with this one statistic.
 fn told_array(alloc: Global, kind: PType, stat: Stat, told: Told) -> Result<Array, ArrayError> {
     let mut array = one_number(alloc, kind)?;
     match tell(alloc, &mut array, stat, told) {
@@ -89,13 +89,13 @@ fn written(
     array.serialize(alloc, &mut ctx, session, &options)
 }
 
-// The same as one.
+// The same as one buffer.
 fn blob_by(alloc: Global, array: &Array, session: &VortexSession) -> Result<ByteBuffer, WireError> {
     let buffers = written(alloc, array, session)?;
     joined(alloc, &buffers)
 }
 
-// The blob of an array, by the encodings that are shipped.
+// The blob of an array, by the shipped encodings.
 fn blob_of(alloc: Global, array: &Array) -> Result<ByteBuffer, WireError> {
     let session = shipped(alloc)?;
     blob_by(alloc, array, &session)
@@ -121,7 +121,7 @@ fn recoded_at(
     recode(alloc, blob, dtype, 1, ids, &mut ctx, session, &options)
 }
 
-// The same of the blob's bytes.
+// The same for the blob's bytes.
 fn recoded_under(
     alloc: Global,
     blob: &[u8],
@@ -135,7 +135,7 @@ fn recoded_under(
     }
 }
 
-// The same of numbers of this kind.
+// The same for numbers of this kind.
 fn recoded_by(
     alloc: Global,
     blob: &[u8],
@@ -146,19 +146,19 @@ fn recoded_by(
     recoded_under(alloc, blob, &dtype, session)
 }
 
-// The same by the encodings that are shipped.
+// The same with the shipped encodings.
 fn recoded(alloc: Global, blob: &[u8], kind: PType) -> Result<Recoded, WireError> {
     let session = shipped(alloc)?;
     recoded_by(alloc, blob, kind, &session)
 }
 
-// The bytes of a blob that is recoded.
+// The bytes that a blob is recoded to.
 fn again(alloc: Global, blob: &[u8], kind: PType) -> Result<ByteBuffer, WireError> {
     let read = recoded(alloc, blob, kind)?;
     joined(alloc, &read.buffers)
 }
 
-// Whether bytes that are recoded are those of a blob.
+// Whether bytes are recoded to a blob.
 fn gives(alloc: Global, bytes: &[u8], kind: PType, blob: &[u8]) -> bool {
     match again(alloc, bytes, kind) {
         Ok(given) => given.as_slice() == blob,
@@ -166,7 +166,7 @@ fn gives(alloc: Global, bytes: &[u8], kind: PType, blob: &[u8]) -> bool {
     }
 }
 
-// Whether a blob that is recoded has its bytes, and these again where it is recoded once more.
+// Whether a blob is recoded to its own bytes, and once more to these.
 fn is_kept(alloc: Global, blob: &[u8], kind: PType) -> bool {
     match again(alloc, blob, kind) {
         Ok(once) => once.as_slice() == blob && gives(alloc, once.as_slice(), kind, blob),
@@ -182,7 +182,7 @@ fn begins_at(bytes: &[u8], place: usize, part: &[u8]) -> bool {
     bytes[place..].starts_with(part)
 }
 
-// The place in bytes of others.
+// The place of some bytes in others.
 fn find(bytes: &[u8], part: &[u8]) -> Option<usize> {
     for place in 0..bytes.len() {
         if begins_at(bytes, place, part) {
@@ -192,12 +192,12 @@ fn find(bytes: &[u8], part: &[u8]) -> Option<usize> {
     None
 }
 
-// Whether a blob has a message within, and is kept.
+// Whether a blob has a message in it, and is recoded to itself.
 fn has_kept(alloc: Global, blob: &[u8], message: &[u8], kind: PType) -> bool {
     find(blob, message).is_some() && is_kept(alloc, blob, kind)
 }
 
-// Whether an array is written with that message, and kept.
+// Whether an array is written with that message, and recoded to itself.
 fn is_written(alloc: Global, array: &Array, message: &[u8], kind: PType) -> bool {
     match blob_of(alloc, array) {
         Ok(blob) => has_kept(alloc, blob.as_slice(), message, kind),
@@ -205,7 +205,7 @@ fn is_written(alloc: Global, array: &Array, message: &[u8], kind: PType) -> bool
     }
 }
 
-// Whether a sum of these bits is written with that message, and kept.
+// Whether a sum of these bits is written with that message, and recoded to itself.
 fn is_summed(alloc: Global, bits: u64, message: &[u8]) -> bool {
     let sum = Told::Exactly(PValue::F64(bits));
     match told_array(alloc, PType::F64, Stat::Sum, sum) {
@@ -228,15 +228,15 @@ fn a_sum_that_is_no_number_is_made_one(rt: HostRuntime) {
     }
 }
 
-// A least value of 5, of signed numbers: told exactly, and as a bound.
+// A least value of 5, of signed numbers: exact, and as a bound.
 const LEAST: Told = Told::Exactly(PValue::I64(5));
 
 const BOUND: Told = Told::Loosely(PValue::I64(5));
 
-// The bytes of a table whose least value is 5: where its message stands, the byte 0x18 that begins it is followed by 10.
+// The bytes of a message whose least value is 5: the byte 0x18 that begins it is followed by 10.
 const MESSAGE: [u8; 2] = [0x18, 10];
 
-// The blob of an array whose least value is told so.
+// The blob of an array with this least value.
 fn blob_of_least(alloc: Global, told: Told) -> Result<ByteBuffer, WireError> {
     match told_array(alloc, PType::I64, Stat::Min, told) {
         Ok(array) => blob_of(alloc, &array),
@@ -244,7 +244,7 @@ fn blob_of_least(alloc: Global, told: Told) -> Result<ByteBuffer, WireError> {
     }
 }
 
-// Whether a least value, exact or not, is written and kept.
+// Whether a least value, exact or not, is written and recoded to itself.
 fn is_bound_kept(alloc: Global, told: Told) -> bool {
     match blob_of_least(alloc, told) {
         Ok(blob) => has_kept(alloc, blob.as_slice(), &MESSAGE, PType::I64),
@@ -258,7 +258,7 @@ fn a_least_value_is_kept(rt: HostRuntime) {
     assert!(rt; is_bound_kept(rt.alloc(), BOUND));
 }
 
-// What the least value is after a blob was read, where it is told exactly.
+// The least value after a blob was read, where it is exact.
 fn exact_least(array: &Array) -> Option<i64> {
     match array.statistics().get(Stat::Min) {
         Precision::Exact(ScalarValue::Primitive(PValue::I64(value))) => Some(*value),
@@ -266,13 +266,13 @@ fn exact_least(array: &Array) -> Option<i64> {
     }
 }
 
-// What is read of a blob's least value.
+// The least value that is read from a blob.
 fn least_read(alloc: Global, blob: &[u8]) -> Result<Option<i64>, WireError> {
     let read = recoded(alloc, blob, PType::I64)?;
     Ok(exact_least(&read.array))
 }
 
-// What is read where the least value is told so.
+// The least value that is read where this one was written.
 fn least_of(alloc: Global, told: Told) -> Result<Option<i64>, WireError> {
     let blob = blob_of_least(alloc, told)?;
     least_read(alloc, blob.as_slice())
@@ -286,7 +286,7 @@ fn statistics_are_read(rt: HostRuntime) {
     assert!(rt; least_of(alloc, Told::Nothing) == Ok(None));
 }
 
-// Whether these are so many names, and the first is this one.
+// Whether there are this many names, and the first is this one.
 fn are_names(names: &Names, count: usize, name: &str) -> bool {
     let first = match names.get(0) {
         Some(first) => first.as_str() == name,
@@ -295,7 +295,7 @@ fn are_names(names: &Names, count: usize, name: &str) -> bool {
     names.len() == count && first
 }
 
-// How many names a blob's root tells, and whether the first is this one.
+// Whether a blob's root has this many names, and the first is this one.
 fn tells_names(array: &SerializedArray, alloc: Global, count: usize, name: &str) -> bool {
     match array.stat_names(alloc) {
         Ok(names) => are_names(&names, count, name),
@@ -303,13 +303,13 @@ fn tells_names(array: &SerializedArray, alloc: Global, count: usize, name: &str)
     }
 }
 
-// The array of the blob of a least value that is told so.
+// The array of the blob of this least value.
 fn array_of_least(alloc: Global, told: Told) -> Result<SerializedArray, WireError> {
     let blob = blob_of_least(alloc, told)?;
     SerializedArray::try_from_buffer(alloc, blob)
 }
 
-// Whether its root tells so many names, and the first is this one.
+// Whether its root has this many names, and the first is this one.
 fn is_named(alloc: Global, told: Told, count: usize, name: &str) -> bool {
     match array_of_least(alloc, told) {
         Ok(array) => tells_names(&array, alloc, count, name),
@@ -346,13 +346,13 @@ fn bytes_with(alloc: Global, from: usize, byte: u8) -> Result<Vec<u8>, WireError
     Ok(bytes)
 }
 
-// What is read of such a blob.
+// The least value that is read from such a blob.
 fn read_with(alloc: Global, from: usize, byte: u8) -> Result<Option<i64>, WireError> {
     let bytes = bytes_with(alloc, from, byte)?;
     least_read(alloc, bytes.as_slice())
 }
 
-// The message stands at the end of its block: its count is four bytes before it, and the precision twelve.
+// The message stands at the end of its block: its length is four bytes before it, and the precision twelve.
 #[test]
 fn broken_statistics(rt: HostRuntime) {
     let alloc = rt.alloc();
@@ -362,7 +362,7 @@ fn broken_statistics(rt: HostRuntime) {
     assert!(rt; read_with(alloc, 12, 0) == Ok(None));
 }
 
-// The begin of the field table of a set that tells a least value alone: its own length and that of the table, then the
+// The start of the field table of a set with a least value alone: its own length and that of the table, then the
 // entries of the value and of its precision.
 const ENTRIES: [u8; 8] = [26, 0, 9, 0, 4, 0, 8, 0];
 
@@ -376,7 +376,7 @@ fn lone_precision(alloc: Global) -> Result<Vec<u8>, WireError> {
     Ok(bytes)
 }
 
-// What is read of it.
+// The least value that is read from it.
 fn lone_precision_read(alloc: Global) -> Result<Option<i64>, WireError> {
     let bytes = lone_precision(alloc)?;
     least_read(alloc, bytes.as_slice())
