@@ -15,7 +15,7 @@ one end t e = absurd (cc)
 one (more u end) t e = let same : u ≡ t = cc in ap (λ z. more z end) same
 one (more u (more v us)) t e = absurd (cc)
 
--- A list that was empty, and that a copy of an array was put into.
+-- A list that was empty, and to which a copy of an array was appended.
 pub alone : (old ts : Trees) (t u : Tree) → old ≡ end → roses_list ts ≡ roses_list old ++ t ∷ [] → t ≡ u → ts ≡ more u end
 alone old ts t u empty pushed same = one ts t (pushed ∙ ap (λ z. roses_list z ++ t ∷ []) empty) ∙ ap (λ z. more z end) same
 

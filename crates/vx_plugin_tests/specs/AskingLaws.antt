@@ -11,7 +11,7 @@ use Rattle.vx_plugin_tests.specs.Odd.{odd_build}
 use Rattle.vx_plugin_tests.specs.OddLaws.{one_child, one_long}
 use Rattle.vx_plugin_tests.specs.Tested.{test_holds}
 
--- What is refused is not given.
+-- A refusal is not a form.
 pub never_given : (y : Parts) → refused ≡ given y → ⊥
 never_given y e = absurd (cc)
 

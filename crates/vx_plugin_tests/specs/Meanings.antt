@@ -1,4 +1,4 @@
--- What the plugins of the tests mean, with their laws.
+-- The meanings of the tests' plugins, with their laws.
 use Rattle.std.specs.Prelude.{ℕ, List, [], ◌∷◌, true, bytes_eq, refl}
 use Rattle.vx_array_tree.specs.Encodings.Primitives as Primitives
 use Rattle.vx_wire_tree.specs.Plugin.{PluginMeaning, refused}
@@ -10,7 +10,8 @@ use Rattle.vx_plugin_tests.specs.AskingLaws as AskingLaws
 use Rattle.vx_plugin_tests.specs.OddLaws as OddLaws
 use Rattle.vx_plugin_tests.specs.VersionedLaws as VersionedLaws
 
--- The plugin of an encoding's identifier that does this with arrays; it has another identifier, which it does not declare.
+-- The plugin of an encoding's identifier that does this with arrays; it has another identifier, which it does not
+-- declare.
 abbrev pub odd : Oddity → List ℕ → List ℕ → PluginMeaning
 odd o id other = record {
   id = id;
@@ -40,7 +41,7 @@ asking id = record {
   builds_again = λ t y x a b k e. absurd (AskingLaws.never_given y e);
 }
 
--- The plugin of numbers that has these identifiers for few of them and for any number.
+-- The plugin of numbers that has one of these identifiers for few of them and one for any number.
 abbrev pub versioned : List ℕ → List ℕ → PluginMeaning
 versioned old new = record {
   id = old;

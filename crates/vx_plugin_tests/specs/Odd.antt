@@ -1,4 +1,5 @@
--- What a plugin means that writes an array over itself, or under a name that it keeps to itself, or not at all.
+-- The meaning of a plugin that writes an array over itself, or under an identifier that it does not declare, or not at
+-- all.
 use Rattle.std.specs.Prelude.{ℕ, List, [], ◌∷◌, Option, Some, None, nat_eq, if◌then◌else◌}
 use Rattle.vx_trees.specs.Rose.{end, more}
 use Rattle.vx_array_tree.specs.Place.{Place, place}
@@ -18,7 +19,7 @@ odd_answer Unwilling id other t = refused
 odd_answer Undeclared id other t = given (over other t)
 odd_answer Endless id other t = given (over id t)
 
--- The one child stands where its node does.
+-- The one child has the place of its node.
 abbrev pub odd_plan : NodeHead → Option (List Place)
 odd_plan h = if nat_eq h.nchildren 1 then Some (place h.dtype h.len ∷ []) else None
 

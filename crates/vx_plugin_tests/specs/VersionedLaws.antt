@@ -55,7 +55,7 @@ module _ (old new : List ℕ) where
       let childless = last (holds old new h.id h.len) (is_plain h.dtype) (nat_eq (length h.metadata) 0) (nat_eq h.nbuffers 1) (nat_eq h.nchildren 0) k.0 in
       none_planned ps k.1 ∙ sym (eqb-true h.nchildren 0 childless)
 
-  -- What is built are numbers.
+  -- What is built is numbers.
   numbers_are : (d : Typ) (n : ℕ) (bs : List Buffer) (t : Tree) → filled d n bs ≡ Some t → (b : Buffer) × (numbers d n b ≡ t)
   numbers_are d n [] t e = absurd (cc)
   numbers_are d n (b ∷ bs) t e =
@@ -71,7 +71,7 @@ module _ (old new : List ℕ) where
         ap (λ (z : Tree). bytes_eq Primitives.id (own_id (label z).body)) (sym x.1) ∙ (bytes_eq-Decides Primitives.id Primitives.id).1 refl,
       )
 
-  -- An identifier holds the rows for which it is.
+  -- The identifier for n rows holds them.
   passes : (a c d : Bool) → c ≡ true → d ≡ true → (if a then true else c && d) ≡ true
   passes true c d p q = refl
   passes false c d p q = λ i. p i && q i
@@ -83,7 +83,7 @@ module _ (old new : List ℕ) where
   holds_own : (n : ℕ) → holds old new (id_for old new n) n ≡ true
   holds_own n = holds_either n (nat_le n most) refl
 
-  -- What is written are numbers without nulls.
+  -- What is written is numbers without nulls.
   record IsMade (id : List ℕ) (d : Typ) (b : Body) (ts : Trees) (y : Parts) : Type 0 where
     kept : Primitives.Data
     body : b ≡ B.primitive kept

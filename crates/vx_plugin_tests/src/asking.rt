@@ -15,7 +15,8 @@ use vx_registry::{ArrayDeserialization, ArrayPlugin, ArraySerialization, PluginE
 use vx_type_wire::{ExtPlugin, Readers};
 use vx_types::{DType, Id, Ids};
 
-/// Reads a node as its one child, where the session accepts the extension that it is of, if it is of one. It writes nothing.
+/// A plugin that reads a node as its one child, where the session accepts the extension that the node is of, if it is
+/// of one. It writes nothing.
 #[derive(Drop)]
 pub struct Asking {
     id: Id,

@@ -15,7 +15,7 @@ pub fn named(alloc: Global, text: &str) -> Result<Id, AllocError>
     }
 }
 
-/// An identifier again.
+/// A copy of an identifier.
 pub fn copied(alloc: Global, id: &Id) -> Result<Id, AllocError>
     ensures { IfOk result (λ copy. copy ≡ id.now) }
 {
@@ -25,7 +25,7 @@ pub fn copied(alloc: Global, id: &Id) -> Result<Id, AllocError>
     }
 }
 
-/// One identifier more.
+/// Appends a copy of an identifier.
 pub fn push(alloc: Global, id: &Id, ids: &mut Ids) -> Result<(), AllocError>
     ensures { OnOk result (ids.new ≡ ids.old ++ id.now ∷ []) }
 {

@@ -27,11 +27,11 @@ pub enum Oddity {
     Unwilling,
     /// It writes it over the array itself, under an identifier that it does not declare.
     Undeclared,
-    /// It writes it over the array itself, and that again so, without an end.
+    /// It writes it over the array itself, and that again in the same way, without an end.
     Endless,
 }
 
-/// A plugin for the arrays of one encoding. What it reads is the one child of a node.
+/// A plugin for the arrays of one encoding. It reads a node as its one child.
 #[derive(Drop)]
 pub struct Odd {
     id: Id,
@@ -68,7 +68,7 @@ fn written_over(
     }
 }
 
-/// One place, of this type and length.
+/// The plan of one child, of this type and length.
 pub(crate) fn own_place(alloc: Global, dtype: &DType, len: usize) -> Result<ChildPlans, PluginError>
     ensures ok { IfOk result (λ ps. ps ≡ place (typ dtype.now) len ∷ []) }
     ensures err { IsOkUnless result PluginError.OutOfMemory }

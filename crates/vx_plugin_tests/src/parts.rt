@@ -1,4 +1,4 @@
-//! What tests of plugins are made of.
+//! The parts of the tests of plugins.
 
 use crate::asking::Asking;
 use crate::odd::{Odd, Oddity};
@@ -22,7 +22,7 @@ pub(crate) const NEW: &str = "vortex.test.primitive_v2";
 /// The identifier of nodes that are read where the session accepts their type.
 pub(crate) const ASKING: &str = "vortex.test.asking";
 
-/// Allocation failure, whatever wanted it.
+/// Allocation failure, for any refusal.
 pub(crate) fn lacking<T: Drop, E: Drop>(made: Result<T, E>) -> Result<T, WireError> {
     match made {
         Ok(value) => Ok(value),
@@ -106,7 +106,7 @@ pub(crate) fn asked_days(alloc: Global, values: &[i32]) -> Result<Array, WireErr
     ))
 }
 
-// Identifiers more.
+// Appends identifiers.
 fn push_ids(alloc: Global, texts: &[&str], ids: &mut Ids) -> Result<(), WireError> {
     for text in texts {
         let id = lacking(Id::new(alloc, text))?;
@@ -127,7 +127,7 @@ pub(crate) fn ids_of(alloc: Global, texts: &[&str]) -> Result<Ids, WireError> {
     }
 }
 
-/// A context in which these identifiers may come.
+/// A context that allows these identifiers.
 pub(crate) fn allowing(alloc: Global, texts: &[&str]) -> Result<ArrayContext, WireError> {
     let ids = ids_of(alloc, texts)?;
     let ctx = ArrayContext::empty(alloc).with_allowed_ids(alloc, &ids);
@@ -178,7 +178,7 @@ fn register_odd(alloc: Global, does: Oddity, session: &mut VortexSession) -> Res
     lacking(session.arrays.register(PluginEntry::Boxed(plugin)))
 }
 
-// Registers a plugin for numbers that has no form for them, before or after that of both identifiers.
+// Registers a plugin for numbers that has no form for them, before or after the plugin of both identifiers.
 fn register_both(alloc: Global, last: bool, session: &mut VortexSession) -> Result<(), WireError> {
     if last {
         register_versioned(alloc, session)?;
@@ -189,7 +189,7 @@ fn register_both(alloc: Global, last: bool, session: &mut VortexSession) -> Resu
     }
 }
 
-// A session once something was registered in it, or the refusal of that.
+// A session in which something was registered, or the refusal of that.
 fn once_registered(
     registered: Result<(), WireError>,
     session: VortexSession,
@@ -215,7 +215,8 @@ pub(crate) fn odd(alloc: Global, does: Oddity) -> Result<VortexSession, WireErro
     once_registered(register_odd(alloc, does, &mut session), session)
 }
 
-/// The same with a plugin for numbers that has no form for them, registered before or after that of both identifiers.
+/// The same with a plugin for numbers that has no form for them, registered before or after the plugin of both
+/// identifiers.
 pub(crate) fn replaced(alloc: Global, last: bool) -> Result<VortexSession, WireError> {
     let mut session = shipped(alloc)?;
     once_registered(register_both(alloc, last, &mut session), session)
@@ -259,7 +260,7 @@ fn register_reader(
     lacking(session.ext.register(reader))
 }
 
-// Registers both.
+// Registers both of these.
 fn register_asked(
     alloc: Global,
     accepts: bool,

@@ -10,7 +10,7 @@ use vx_nested_parts::parts::both;
 use vx_registry::{ArrayContext, VortexSession};
 use vx_serde::WireError;
 
-// Numbers of which tests are made, by how many there are.
+// Numbers for the tests, named by how many there are.
 const TWO: [i32; 2] = [1, 2];
 
 const THREE: [i32; 3] = [1, 2, 3];
@@ -19,7 +19,7 @@ const FOUR: [i32; 4] = [1, 2, 3, 4];
 
 const EIGHT: [i32; 8] = [0, 1, 2, 3, 4, 5, 6, 7];
 
-// Whether there is something.
+// Whether a result is Ok.
 fn is_made<T: Drop>(made: Result<T, WireError>) -> bool {
     match made {
         Ok(_) => true,
@@ -27,7 +27,7 @@ fn is_made<T: Drop>(made: Result<T, WireError>) -> bool {
     }
 }
 
-// Why there is nothing.
+// The refusal of a result.
 fn refusal<T: Drop>(made: Result<T, WireError>) -> Result<WireError, WireError> {
     match made {
         Ok(_) => Err(WireError::BadShape),
@@ -35,7 +35,7 @@ fn refusal<T: Drop>(made: Result<T, WireError>) -> Result<WireError, WireError> 
     }
 }
 
-// The blob of an array, if these identifiers come to a context and no other.
+// The blob of an array, if these identifiers are taken into a context and no other.
 fn blob_as(
     alloc: Global,
     array: &Array,
@@ -93,7 +93,7 @@ fn returns_by(
     is_read_as(alloc, blob?, array, text, session)
 }
 
-// The same by the plugin of both identifiers.
+// The same with the plugin of both identifiers.
 fn returns(alloc: Global, values: &[i32], text: &str) -> Result<bool, WireError> {
     let (array, session) = both(numbers(alloc, values), versioned(alloc))?;
     let told = returns_by(alloc, &array, text, &session);
@@ -110,7 +110,7 @@ fn numbers_are_written_under_the_identifier_of_their_length(rt: HostRuntime) {
     assert!(rt; returns(rt.alloc(), &EIGHT, NEW) == Ok(true));
 }
 
-// Why an array is not written, where nothing comes to a context.
+// The refusal of writing an array, where nothing is taken into a context.
 fn unwritten_in(
     alloc: Global,
     array: &Array,
@@ -125,7 +125,7 @@ fn unwritten_in(
     }
 }
 
-// The same of an array where these identifiers may come.
+// The same for an array where these identifiers are allowed.
 fn unwritten_among(
     alloc: Global,
     array: &Array,
@@ -138,7 +138,7 @@ fn unwritten_among(
     error
 }
 
-// The same of eight numbers, by the plugin of both identifiers.
+// The same for eight numbers, with the plugin of both identifiers.
 fn not_permitted(alloc: Global, texts: &[&str]) -> Result<WireError, WireError> {
     let (array, session) = both(numbers(alloc, &EIGHT), versioned(alloc))?;
     let error = unwritten_among(alloc, &array, texts, &session);
@@ -153,7 +153,7 @@ fn a_new_identifier_has_to_be_allowed(rt: HostRuntime) {
     assert!(rt; not_permitted(rt.alloc(), &[]) == Ok(WireError::NotPermitted));
 }
 
-// Why the blob of eight numbers is not read by a session of the shipped encodings, with this identifier.
+// The refusal of reading the blob of eight numbers with a session of the shipped encodings and this identifier.
 fn unread_shipped(alloc: Global, text: &str) -> Result<WireError, WireError> {
     let (blob, session) = both(versioned_blob(alloc, &EIGHT), shipped(alloc))?;
     let error = refusal(read_numbers(alloc, blob, 8, text, &session));
@@ -161,7 +161,7 @@ fn unread_shipped(alloc: Global, text: &str) -> Result<WireError, WireError> {
     error
 }
 
-// And by that of the plugin.
+// The same with the session of the plugin.
 fn unread_plugged(alloc: Global, text: &str) -> Result<WireError, WireError> {
     let (blob, session) = both(versioned_blob(alloc, &EIGHT), versioned(alloc))?;
     let error = refusal(read_numbers(alloc, blob, 8, text, &session));
@@ -187,7 +187,7 @@ fn refusals_of_plugins_have_numbers_of_their_own(rt: HostRuntime) {
     }
 }
 
-// Why an array is not written by a session, where nothing comes to the context.
+// The refusal of writing an array with a session, where nothing is taken into the context.
 fn unwritten_by(
     alloc: Global,
     array: &Array,
@@ -199,7 +199,7 @@ fn unwritten_by(
     error
 }
 
-// Why numbers are not written by an odd plugin.
+// The refusal of writing numbers with an odd plugin.
 fn unwritten(alloc: Global, does: Oddity) -> Result<WireError, WireError> {
     let (array, session) = both(numbers(alloc, &TWO), odd(alloc, does))?;
     let error = unwritten_by(alloc, &array, &session);
@@ -221,7 +221,7 @@ fn odd_plugins_write_nothing(rt: HostRuntime) {
     }
 }
 
-// The blob of numbers, written where both identifiers may come.
+// The blob of numbers, written where both identifiers are allowed.
 fn blob_of(
     alloc: Global,
     values: &[i32],
@@ -234,7 +234,7 @@ fn blob_of(
     blob
 }
 
-// The same by the plugin of both identifiers.
+// The same with the plugin of both identifiers.
 fn versioned_blob(alloc: Global, values: &[i32]) -> Result<ByteBuffer, WireError> {
     let session = versioned(alloc)?;
     let blob = blob_of(alloc, values, &session);
@@ -242,7 +242,7 @@ fn versioned_blob(alloc: Global, values: &[i32]) -> Result<ByteBuffer, WireError
     blob
 }
 
-// Whether two numbers are written as they should by a session to which the plugin without a form came last or first.
+// Whether two numbers are written rightly by a session in which the plugin without a form was registered last or first.
 fn are_written_by(alloc: Global, last: bool, session: &VortexSession) -> bool {
     let blob = blob_of(alloc, &TWO, session);
     if last {
@@ -252,7 +252,7 @@ fn are_written_by(alloc: Global, last: bool, session: &VortexSession) -> bool {
     }
 }
 
-// Whether the blobs of two numbers and of eight are read and two numbers written as they should by such a session.
+// Whether the blobs of two numbers and of eight are read, and two numbers are written, rightly by such a session.
 fn are_read_and_written_by(
     alloc: Global,
     two: ByteBuffer,
@@ -267,7 +267,7 @@ fn are_read_and_written_by(
     written && old != last && new
 }
 
-// The same by a session of both plugins.
+// The same with a session of both plugins.
 fn replaced_by(alloc: Global, last: bool) -> Result<bool, WireError> {
     let blobs = both(versioned_blob(alloc, &TWO), versioned_blob(alloc, &EIGHT));
     let ((two, eight), session) = both(blobs, replaced(alloc, last))?;
@@ -285,7 +285,7 @@ fn a_later_plugin_takes_the_place_of_an_earlier_one(rt: HostRuntime) {
 // The identifiers of days below a node that the asking plugin reads.
 const ASKED: [&str; 3] = [ASKING, "vortex.ext", OLD];
 
-// The blob of three such days by a session, if those identifiers come.
+// The blob of three such days by a session, if those identifiers are taken.
 fn asked_blob_by(alloc: Global, session: &VortexSession) -> Result<ByteBuffer, WireError> {
     let array = asked_days(alloc, &THREE)?;
     let mut ctx = ArrayContext::empty(alloc);
@@ -295,7 +295,7 @@ fn asked_blob_by(alloc: Global, session: &VortexSession) -> Result<ByteBuffer, W
     blob
 }
 
-// The same by a session that allows what nothing is registered for.
+// The same with a session that allows what nothing is registered for.
 fn asked_blob(alloc: Global) -> Result<ByteBuffer, WireError> {
     let session = allowing_unknown(alloc)?;
     let blob = asked_blob_by(alloc, &session);
@@ -303,7 +303,7 @@ fn asked_blob(alloc: Global) -> Result<ByteBuffer, WireError> {
     blob
 }
 
-// Whether three days are read of a blob.
+// Whether three days are read from a blob.
 fn are_days(
     alloc: Global,
     days: &Array,
@@ -316,7 +316,7 @@ fn are_days(
     Ok(same)
 }
 
-// Whether they are by a session whose reader of days accepts them or not.
+// Whether they are with a session whose reader of days accepts them or not.
 fn reads_days(alloc: Global, accepts: bool) -> Result<bool, WireError> {
     let parts = both(days(alloc, &THREE), asked_blob(alloc));
     let ((days, blob), session) = both(parts, asking(alloc, accepts))?;

@@ -16,11 +16,11 @@ use vx_registry::{ArrayDeserialization, ArrayPlugin, ArraySerialization, PluginE
 use vx_type_wire::Readers;
 use vx_types::{Blob, DType, Id, Ids, Nullability};
 
-/// How many rows the old identifier holds.
+/// The greatest number of rows of the old identifier.
 const MOST: usize = 4;
 
-/// Numbers without nulls, as `vortex.primitive` has them: under that identifier up to four rows, under a new one any number
-/// of them. Other arrays it refuses.
+/// A plugin of numbers without nulls, in the form of `vortex.primitive`: under that identifier for up to four rows,
+/// under a new one for any number of them. It refuses other arrays.
 #[derive(Drop)]
 pub struct Versioned {
     old: Id,
@@ -36,7 +36,7 @@ impl Versioned {
         })
     }
 
-    // Whether an identifier holds so many rows.
+    // Whether an identifier holds `len` rows.
     fn holds(&self, id: &Id, len: usize) -> bool
         ensures { result ≡ holds self.now.old self.now.new id.now len }
     {
@@ -46,7 +46,7 @@ impl Versioned {
         *id == self.old && len <= MOST
     }
 
-    // The identifier for so many rows.
+    // The identifier for `len` rows.
     fn id_for(&self, len: usize) -> &Id
         ensures { result.now ≡ id_for self.now.old self.now.new len }
     {
@@ -188,7 +188,7 @@ fn buffers_of(alloc: Global, numbers: &PrimitiveData) -> Result<BufferHandles, P
     }
 }
 
-// The numbers of the one buffer of a node of this type and length.
+// The numbers in the one buffer of a node of this type and length.
 fn filled(
     alloc: Global,
     dtype: &DType,
@@ -212,7 +212,7 @@ fn filled(
     }
 }
 
-/// An array again.
+/// A clone of an array.
 pub fn copy_of(alloc: Global, array: &Array) -> Result<Array, PluginError>
     ensures ok { IfOk result (λ copy. copy ≡ array.now) }
     ensures err { IsOkUnless result PluginError.OutOfMemory }
