@@ -1,4 +1,4 @@
-//! What tests of two identifiers are made of.
+//! The parts of the tests of two identifiers.
 
 use std::alloc::Global;
 use vx_arrays::{Array, PrimitiveArray};
@@ -19,7 +19,7 @@ pub(crate) const SECOND: &'static str = "vortex.primitive.v2";
 pub(crate) enum Registered {
     /// The shipped encodings: primitives have one identifier.
     Shipped,
-    /// The same, and then primitives under two identifiers.
+    /// The shipped encodings, and then primitives under two identifiers.
     Revised,
     /// The same, and then primitives under one again.
     RevisedThenShipped,
@@ -27,7 +27,7 @@ pub(crate) enum Registered {
     RevisedAlone,
 }
 
-/// Allocation failure, whatever wanted it.
+/// Allocation failure, for any refusal.
 pub(crate) fn lacking<T: Drop, E: Drop>(made: Result<T, E>) -> Result<T, WireError> {
     match made {
         Ok(value) => Ok(value),
@@ -53,7 +53,7 @@ fn arrays_of(alloc: Global, registered: Registered) -> Result<ArraySession, Wire
     }
 }
 
-/// A session in which this is registered, without readers of extensions.
+/// A session in which these are registered, without readers of extensions.
 pub(crate) fn session_of(
     alloc: Global,
     registered: Registered,
@@ -62,7 +62,7 @@ pub(crate) fn session_of(
     Ok(VortexSession::new(arrays, ExtSession::new(alloc)))
 }
 
-/// The numbers from 0 on, so many of them.
+/// The numbers from 0 up to `count`.
 pub(crate) fn numbers(alloc: Global, count: u32) -> Result<Array, WireError> {
     let mut bytes = Vec::new(alloc);
     for i in 0..count {
@@ -90,7 +90,7 @@ pub(crate) fn ids_of(alloc: Global, text: &str) -> Result<Ids, WireError> {
     Ok(ids)
 }
 
-/// The identifiers of a blob that has this one alone.
+/// The identifiers of a blob that names this one alone.
 pub(crate) fn read_context(alloc: Global, text: &str) -> Result<ReadContext, WireError> {
     Ok(ReadContext::new(ids_of(alloc, text)?))
 }
@@ -114,7 +114,7 @@ fn written(alloc: Global, array: &Array, session: &VortexSession) -> Result<Byte
     lacking(buffers.join(alloc))
 }
 
-/// The blob of so many numbers, whose node names its encoding by 0.
+/// The blob of `count` numbers, whose node names its encoding by 0.
 pub(crate) fn blob_of(alloc: Global, count: u32) -> Result<ByteBuffer, WireError> {
     let array = numbers(alloc, count)?;
     let session = session_of(alloc, Registered::Shipped)?;

@@ -10,7 +10,7 @@ use vx_buffer::ByteBuffers;
 use vx_registry::ArrayContext;
 use vx_serde::{Recoded, SerializeOptions, WireError, recode};
 
-// What is read of a blob of so many numbers under an identifier, and what is written of it in a context.
+// What is read from a blob of `count` numbers under an identifier, and what is written of it in a context.
 fn recoding_of(
     alloc: Global,
     registered: Registered,
@@ -40,22 +40,22 @@ fn are_numbers(alloc: Global, array: &Array, count: u32) -> Result<bool, WireErr
     Ok(array.array_eq(&own) && array.encoding_id() == OLD)
 }
 
-// Whether these are their blob.
+// Whether these are the bytes of their blob.
 fn are_bytes(alloc: Global, buffers: &ByteBuffers, count: u32) -> Result<bool, WireError> {
     let bytes = lacking(buffers.join(alloc))?;
     let own = blob_of(alloc, count)?;
     Ok(bytes.as_slice() == own.as_slice())
 }
 
-// Whether both are so.
+// Whether both hold.
 fn is_well(alloc: Global, made: &Recoded, count: u32) -> Result<bool, WireError> {
     let same = are_numbers(alloc, &made.array, count)?;
     let kept = are_bytes(alloc, &made.buffers, count)?;
     Ok(same && kept)
 }
 
-// A blob of so many numbers under an identifier, recoded in a context: whether what is read are the numbers, of the one
-// encoding, and what is written are the same bytes, and under which of both it is.
+// A blob of `count` numbers under an identifier, recoded in a context: whether the numbers are read, of the one
+// encoding, and the same bytes are written, and under which of the two identifiers.
 fn recoded_in(
     alloc: Global,
     registered: Registered,
@@ -71,7 +71,7 @@ fn recoded_in(
     Ok((well? && (second || old), second))
 }
 
-// The same in a context that takes any identifier: whether all is well, and the second identifier is written.
+// The same in a context that allows all: whether both hold, and whether the second identifier is written.
 fn recoded(
     alloc: Global,
     registered: Registered,
@@ -135,7 +135,7 @@ fn rows_are_refused_under_what_does_not_hold_them(rt: HostRuntime) {
     assert!(rt; WireError::UnknownEncoding.number() == 17);
 }
 
-// Why eight numbers under the second identifier are not written where the old one may come alone.
+// Why eight numbers under the second identifier are not written where only the old one is allowed.
 fn not_permitted(alloc: Global) -> Result<WireError, WireError> {
     let allowed = ids_of(alloc, OLD)?;
     let ctx = lacking(ArrayContext::empty(alloc).with_allowed_ids(alloc, &allowed))?;

@@ -1,4 +1,4 @@
-//! What sessions hold, and what holds which rows.
+//! What sessions hold, and which identifier holds which rows.
 
 use crate::parts::{OLD, Registered, SECOND, lacking, numbers, session_of};
 use std::alloc::Global;
@@ -8,13 +8,13 @@ use vx_registry::{Entry, VortexSession};
 use vx_serde::WireError;
 use vx_types::Id;
 
-// Whether nodes of an identifier hold so many rows.
+// Whether nodes of an identifier hold `len` rows.
 fn holds(alloc: Global, text: &str, len: usize) -> Result<bool, WireError> {
     let id = lacking(Id::new(alloc, text))?;
     Ok(revised_holds(&id, len))
 }
 
-// Whether so many rows are written under this identifier.
+// Whether `len` rows are written under this identifier.
 fn is_id(alloc: Global, len: usize, text: &str) -> Result<bool, WireError> {
     let id = lacking(revised_id(alloc, len))?;
     Ok(id.as_str() == text)
@@ -76,7 +76,7 @@ fn is_serialized(
     }
 }
 
-// Whether the root of so many numbers is.
+// The same for the root of `count` numbers.
 fn serialized(
     alloc: Global,
     registered: Registered,
