@@ -72,7 +72,7 @@ numbers_node = node (record { id = Some (codes "vortex.primitive"); metadata = [
 abbrev variants_node : List ℕ → Wires → Wire
 variants_node metadata ws = node (record { id = Some (codes "vortex.variant"); metadata = metadata; buffers = []; stats = absent }) (more core_node ws)
 
--- ---- what is told
+-- ---- what is decoded
 
 core_matches : (d : Typ) → Matches (codec d) (session true) core_node (unknown_rows (variant_type Nullable))
 core_matches d = (codes "x.core", refl, (refl, (record { kept = record { id = codes "x.core"; metadata = []; buffers = [] }; body = refl; id = refl; metadata = refl; buffers = refl }, refl)))
