@@ -31,8 +31,8 @@ either = node (union_kind (codes "a" ∷ codes "b" ∷ []) (7 ∷ 5 ∷ []) NonN
 abbrev pub two_bytes : Value
 two_bytes = node tuple (more (lone (number (U8 1))) (more (lone null) end))
 
--- Null, flags, floats, wide decimals, lists, structures, maps with an entry of which nothing is known, unions, variants,
--- extensions.
+-- Null, booleans, floats, wide decimals, lists, structures, maps with an entry of which nothing is known, unions,
+-- variants, extensions.
 abbrev pub shown_values : List ShownValue
 shown_values =
     record { value = lone null; dtype = bytes_list; text = codes "null" }

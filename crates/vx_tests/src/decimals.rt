@@ -52,7 +52,7 @@ fn files(blob: &[u8]) -> Files<'_> {
     }
 }
 
-// Whether the blob is written again by these words, and listed so.
+// Whether the blob is written again by these words, with this listing.
 fn is_listed(alloc: Global, blob: &[u8], words: &[&str], text: &str) -> bool {
     saves_the_same(alloc, words, &files(blob), text)
 }

@@ -8,7 +8,7 @@ use vxcat_core::{MemSink, MemStore, StoreError};
 const FOREIGN: &[u8] =
     b"\x0a\x1dvortex.test.foreign_scalar_fn\x12\x0f\x0a\x0bvortex.root\x1a\x00\x1a\x04\x01\x02\x03\x04";
 
-// The same by another writer: the metadata stand first, and the root has none.
+// The same by another writer: the metadata comes first, and the root has none.
 const FOREIGN_OF_ANOTHER: &[u8] =
     b"\x1a\x04\x01\x02\x03\x04\x12\x0d\x0a\x0bvortex.root\x0a\x1dvortex.test.foreign_scalar_fn";
 
@@ -31,7 +31,7 @@ fn called(alloc: Global, bytes: &[u8]) -> Result<Vec<u8>, AllocError> {
     Ok(call)
 }
 
-// So many calls, one in the other, the innermost without children.
+// `calls` calls, one in the other, the innermost without children.
 fn nested(alloc: Global, calls: u32) -> Result<Vec<u8>, AllocError> {
     let mut bytes = Vec::from_slice(alloc, b"\x0a\x01x")?;
     for _ in 1..calls {
@@ -40,19 +40,19 @@ fn nested(alloc: Global, calls: u32) -> Result<Vec<u8>, AllocError> {
     Ok(bytes)
 }
 
-// A store of so many calls.
+// A store of such calls.
 fn store_of_calls(alloc: Global, calls: u32) -> Result<MemStore, StoreError> {
     let bytes = nested(alloc, calls)?;
     store_of_one(alloc, bytes.as_slice())
 }
 
-// Whether the program ends so on an expression.
+// Whether the program ends with this status on an expression.
 fn ends_so(alloc: Global, store: &mut MemStore, status: u8) -> bool {
     let mut out = MemSink::new(alloc);
     ends(alloc, &WORDS, store, &mut out, status)
 }
 
-// The same on so many calls.
+// The same for `calls` calls.
 fn calls_end(alloc: Global, calls: u32, status: u8) -> bool {
     match store_of_calls(alloc, calls) {
         Ok(mut store) => ends_so(alloc, &mut store, status),
@@ -77,7 +77,7 @@ const ROWS: [(&str, &[u8], u8, &str); 5] = [
     ("cut", b"\x0a\x1dvortex.test.foreig", 8, ""),
 ];
 
-// Whether the program prints this for an expression, and leaves its file as it was.
+// Whether the program prints this for an expression, and leaves its file unchanged.
 fn is_printed(alloc: Global, bytes: &[u8], status: u8, text: &str) -> bool {
     match store_of_one(alloc, bytes) {
         Ok(mut store) => {
@@ -101,7 +101,7 @@ const JUDGED: [(&[&str], u8); 3] = [
     (&["expr", "g"], 3),
 ];
 
-// Whether the program prints nothing on these words.
+// Whether the program prints nothing on these words, and ends with this status.
 fn prints_nothing(alloc: Global, words: &[&str], status: u8) -> bool {
     match store_of_one(alloc, FOREIGN) {
         Ok(mut store) => prints(alloc, words, &mut store, status, ""),
@@ -116,14 +116,14 @@ fn words_of_expr_are_judged(rt: HostRuntime) {
     }
 }
 
-// Whether the program ends by the store, whose first call fails.
+// Whether the program ends with a fault of the store, whose first call fails.
 fn fails_to_load(alloc: Global) -> Result<bool, StoreError> {
     let mut store = store_of_one(alloc, FOREIGN)?;
     store.fail_call(1)?;
     Ok(prints(alloc, &WORDS, &mut store, 3, ""))
 }
 
-// Whether a write that fails in mid-stream leaves a prefix.
+// Whether a write that fails in the middle leaves a prefix.
 fn is_cut(alloc: Global, store: &mut MemStore) -> bool {
     let mut out = MemSink::failing(alloc, 4).taking(7);
     ends(alloc, &WORDS, store, &mut out, 5) && out.text() == b"vortex.test.foreign_s".as_slice()

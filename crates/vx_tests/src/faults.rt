@@ -11,7 +11,7 @@ const ALLOWING: [&str; 11] = [
     "recode", "t", "b", "4", "i", "o", "j", "--allow", "f", "--rows", "0",
 ];
 
-// The worked files, and a file of the identifiers that may be written.
+// The worked files, and a file of allowed identifiers.
 fn store_that_allows(alloc: Global, allowed: &str) -> Result<MemStore, StoreError> {
     let mut store = store_of(alloc, &files(IDS))?;
     store.insert(alloc, "f", allowed.as_bytes())?;
@@ -26,7 +26,7 @@ const ALLOWED: [(&str, u8); 4] = [
     ("a\n\n", 7),
 ];
 
-// Whether the program ends so, and saves both files or neither.
+// Whether the program ends with this status, and saves both files or neither.
 fn saves_both(alloc: Global, store: &mut MemStore, status: u8) -> bool {
     let mut out = MemSink::new(alloc);
     ends(alloc, &ALLOWING, store, &mut out, status)
@@ -34,7 +34,7 @@ fn saves_both(alloc: Global, store: &mut MemStore, status: u8) -> bool {
         && holds(store, "j", IDS.as_bytes()) == (status == 0)
 }
 
-// The same with a file of identifiers that may be written.
+// The same with a file of allowed identifiers.
 fn are_allowed(alloc: Global, allowed: &str, status: u8) -> bool {
     match store_that_allows(alloc, allowed) {
         Ok(mut store) => saves_both(alloc, &mut store, status),
@@ -42,7 +42,7 @@ fn are_allowed(alloc: Global, allowed: &str, status: u8) -> bool {
     }
 }
 
-// Only identifiers of the file after `--allow` may be written; it is judged as the other files are.
+// Only identifiers of the file after `--allow` are allowed; the file is judged as the other files are.
 #[test]
 fn identifiers_are_allowed(rt: HostRuntime) {
     for (allowed, status) in &ALLOWED {
@@ -61,7 +61,7 @@ const CALLS: [(u64, u8, bool, bool); 6] = [
     (6, 0, true, true),
 ];
 
-// The same where the identifiers that may be written are loaded too.
+// The same where the file of allowed identifiers is loaded, too.
 const CALLS_ALLOWING: [(u64, u8, bool, bool); 7] = [
     (1, 3, false, false),
     (2, 3, false, false),
@@ -72,7 +72,7 @@ const CALLS_ALLOWING: [(u64, u8, bool, bool); 7] = [
     (7, 0, true, true),
 ];
 
-// Whether the program ends so over this store, has saved what is said, and prints only at status 0.
+// Whether the program ends with this status over this store, has saved what the row says, and prints only at status 0.
 fn leaves(
     alloc: Global,
     words: &[&str],
@@ -86,7 +86,7 @@ fn leaves(
         && (row.1 == 0 || out.text().is_empty())
 }
 
-// Whether the program ends as the row says, where its call of the store fails.
+// Whether the program ends as the row says, where that call of the store fails.
 fn fails(alloc: Global, words: &[&str], row: &(u64, u8, bool, bool)) -> Result<bool, StoreError> {
     let mut store = store_that_allows(alloc, "vortex.primitive")?;
     store.fail_call(row.0)?;
@@ -106,7 +106,7 @@ fn each_fault_of_the_store_has_its_status(rt: HostRuntime) {
     }
 }
 
-// Whether the program saves both files, ends by the output, and leaves this prefix of the listing.
+// Whether the program saves both files, ends with a fault of the output, and leaves this prefix of the listing.
 fn is_cut(alloc: Global, store: &mut MemStore, out: &mut MemSink, prefix: &str) -> bool {
     ends(alloc, &WORDS, store, out, 5)
         && holds(store, "o", &BLOB)
@@ -114,7 +114,7 @@ fn is_cut(alloc: Global, store: &mut MemStore, out: &mut MemSink, prefix: &str) 
         && out.text() == prefix.as_bytes()
 }
 
-// The same over the worked files, with an output that fails at a write and takes so many bytes at most by one.
+// The same over the worked files, with an output that fails at a write and takes at most `most` bytes by one.
 fn is_cut_at(alloc: Global, write: u64, most: usize, prefix: &str) -> bool {
     let mut out = MemSink::failing(alloc, write);
     if most > 0 {
@@ -126,7 +126,7 @@ fn is_cut_at(alloc: Global, write: u64, most: usize, prefix: &str) -> bool {
     }
 }
 
-// A write that fails in mid-stream leaves a prefix.
+// A write that fails in the middle leaves a prefix.
 #[test]
 fn each_fault_of_the_output_leaves_a_prefix(rt: HostRuntime) {
     assert!(rt; is_cut_at(rt.alloc(), 1, 0, ""));
@@ -149,7 +149,7 @@ fn has(alloc: Global, store: &mut DirStore<'_, HostRuntime>, name: &str, bytes: 
     }
 }
 
-// Whether the program over real files that are missing ends by a fault.
+// Whether the program over real files that are missing ends with a fault.
 fn misses(alloc: Global, store: &mut DirStore<'_, HostRuntime>) -> bool {
     let mut out = MemSink::new(alloc);
     ends(alloc, &REAL, store, &mut out, 3)

@@ -1,12 +1,12 @@
-//! Worked files of flags, and of numbers that may be null: types and blobs.
+//! Worked files of booleans, and of numbers that may be null: types and blobs.
 
-/// The type of flags, nullable.
+/// The type of booleans, nullable.
 pub const FLAG_TYPE: [u8; 45] = [
     16, 0, 0, 0, 0, 0, 0, 0, 8, 0, 12, 0, 4, 0, 8, 0, 8, 0, 0, 0, 2, 0, 0, 0, 16, 0, 0, 0, 0, 0, 0,
     0, 6, 0, 5, 0, 4, 0, 0, 0, 8, 0, 0, 0, 1,
 ];
 
-/// The type of flags, not nullable.
+/// The type of booleans, not nullable.
 pub const PRESENT_FLAG_TYPE: [u8; 44] = [
     16, 0, 0, 0, 0, 0, 0, 0, 8, 0, 12, 0, 4, 0, 8, 0, 8, 0, 0, 0, 2, 0, 0, 0, 16, 0, 0, 0, 0, 0, 0,
     0, 6, 0, 4, 0, 0, 0, 0, 0, 8, 0, 0, 0,
@@ -18,7 +18,7 @@ pub const NULLABLE_TYPE: [u8; 46] = [
     0, 8, 0, 6, 0, 4, 0, 5, 0, 8, 0, 0, 0, 6, 1,
 ];
 
-/// The blob of four flags, of which the first and the third are there: true and false.
+/// The blob of four booleans, of which the first and the third are there: true and false.
 pub const FLAG_BLOB: [u8; 218] = [
     1, 5, 16, 0, 0, 0, 0, 0, 0, 0, 8, 0, 12, 0, 4, 0, 8, 0, 8, 0, 0, 0, 28, 0, 0, 0, 168, 0, 0, 0,
     0, 0, 0, 0, 14, 0, 20, 0, 0, 0, 4, 0, 8, 0, 12, 0, 16, 0, 0, 0, 16, 0, 0, 0, 20, 0, 0, 0, 24,
@@ -43,7 +43,7 @@ pub const NULLABLE_BLOB: [u8; 249] = [
     0, 0, 228, 0, 0, 0,
 ];
 
-/// The blob of three flags in the last bits of a byte: true, false, true.
+/// The blob of three booleans in the last bits of a byte: true, false, true.
 pub const LAST_BITS_BLOB: [u8; 153] = [
     160, 16, 0, 0, 0, 0, 0, 0, 0, 8, 0, 12, 0, 4, 0, 8, 0, 8, 0, 0, 0, 28, 0, 0, 0, 112, 0, 0, 0,
     0, 0, 0, 0, 14, 0, 20, 0, 0, 0, 4, 0, 8, 0, 12, 0, 16, 0, 0, 0, 16, 0, 0, 0, 20, 0, 0, 0, 24,

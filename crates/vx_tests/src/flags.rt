@@ -1,4 +1,4 @@
-//! The program, run on flags and on numbers of which some are null.
+//! The program, run on booleans and on numbers of which some are null.
 
 use crate::flag_files::{
     FLAG_BLOB, FLAG_TYPE, LAST_BITS_BLOB, NULLABLE_BLOB, NULLABLE_TYPE, PRESENT_FLAG_TYPE,
@@ -18,7 +18,7 @@ const NUMBER_LISTING: &str =
 
 const LAST_BITS_LISTING: &str = "vortex.bool len=3 buffers=[1]\n0: true\n1: false\n2: true\n";
 
-// A blob of flags at a type.
+// A blob of booleans at a type.
 fn flags<'a>(dtype: &'a [u8], blob: &'a [u8]) -> Files<'a> {
     Files {
         dtype,
@@ -36,7 +36,7 @@ fn numbers() -> Files<'static> {
     }
 }
 
-// Whether four rows are written again, and listed so.
+// Whether four rows are written again, with this listing.
 fn is_listed(alloc: Global, files: &Files<'_>, text: &str) -> bool {
     saves_the_same(alloc, &WORDS, files, text)
 }

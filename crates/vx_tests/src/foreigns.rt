@@ -84,7 +84,7 @@ fn an_unknown_root_is_kept_whole(rt: HostRuntime) {
     }
 }
 
-// Numbers that may be null, under an identifier of their validity that nothing reads.
+// Numbers that may be null, with a validity under an identifier that nothing reads.
 fn with_unknown_validity() -> Files<'static> {
     Files {
         dtype: &NULLABLE_TYPE,
@@ -138,7 +138,7 @@ fn the_option_stands_among_others(rt: HostRuntime) {
     assert!(rt; refuses(rt.alloc(), &OF_THAT_NAME, &files("x.y"), 3));
 }
 
-// A least value of no bytes stands among the statistics.
+// The change that makes a least value of no bytes one of the statistics.
 const ILL_FORMED: [(usize, u8); 1] = [(116, 4)];
 
 // Whether the blob with these statistics is kept under an unknown identifier, and the statistics are dropped.
@@ -171,7 +171,7 @@ fn extended(ids: &str) -> Files<'_> {
     }
 }
 
-// The type is read: numbers are of the wrong shape for it, and a foreign node may be of any type.
+// The type is read: numbers have the wrong shape for it, and a foreign node may be of any type.
 #[test]
 fn an_unknown_extension_is_allowed(rt: HostRuntime) {
     assert!(rt; refuses(rt.alloc(), &WORDS, &extended("x.y\n"), 6));
@@ -179,7 +179,7 @@ fn an_unknown_extension_is_allowed(rt: HostRuntime) {
     assert!(rt; saves_the_same(rt.alloc(), &ALLOWING, &extended("x.y\n"), FOUR_ROWS));
 }
 
-// The place of the root table, the field table of an array and its table, whose root follows.
+// The place of the root table, the field table of an array, and the array's table, after which its root stands.
 const FRONT: [u8; 18] = [10, 0, 0, 0, 6, 0, 8, 0, 4, 0, 6, 0, 0, 0, 14, 0, 0, 0];
 
 // A node's field table, and the node with the one below it as its only child.
@@ -187,10 +187,10 @@ const LEVEL: [u8; 26] = [
     10, 0, 8, 0, 0, 0, 0, 0, 4, 0, 10, 0, 0, 0, 4, 0, 0, 0, 1, 0, 0, 0, 14, 0, 0, 0,
 ];
 
-// The lowest node, which holds nothing.
+// The lowest node, which is empty.
 const LAST: [u8; 14] = [0, 0, 0, 0, 0, 0, 4, 0, 4, 0, 4, 0, 0, 0];
 
-// The blob of a chain of so many nodes, without statistics, whose message has this length.
+// The blob of a chain of `levels` nodes, without statistics, whose message has this length.
 fn chain(alloc: Global, levels: usize, len: &[u8]) -> Result<Vec<u8>, AllocError> {
     let mut blob = Vec::from_slice(alloc, &FRONT)?;
     for _ in 1..levels {
@@ -229,7 +229,7 @@ const NO_ROWS_DEEP: [&str; 11] = [
     "--deep",
 ];
 
-// Why the blob of a chain is not opened, deep or not, if it is not.
+// The refusal of opening the blob of a chain, deep or not, if it is refused.
 fn unopened(
     alloc: Global,
     levels: usize,
@@ -240,7 +240,7 @@ fn unopened(
     Ok(SerializedArray::try_from_buffer_to(alloc, blob, deep).err())
 }
 
-// Whether the program ends so on a chain of foreign nodes, deep or not.
+// Whether the program ends with this status on a chain of foreign nodes, deep or not.
 fn ends_chain(alloc: Global, levels: usize, len: &[u8], deep: bool, status: u8) -> bool {
     let words: &[&str] = if deep { &NO_ROWS_DEEP } else { &NO_ROWS };
     match chain(alloc, levels, len) {
@@ -256,8 +256,8 @@ fn ends_chain(alloc: Global, levels: usize, len: &[u8], deep: bool, status: u8) 
     }
 }
 
-// How many levels a chain has, the length of its message, whether deep trees are allowed, why its blob is not opened, and
-// the status: with the message 64 or 128 tables may be nested, and what is written has statistics, too.
+// The number of levels of a chain, the length of its message, whether deep trees are allowed, the refusal of opening
+// its blob, and the status. With the message 64 or 128 tables may nest, and what is written has statistics, too.
 const CHAINS: [(usize, [u8; 4], bool, Option<WireError>, u8); 7] = [
     (62, [82, 6, 0, 0], false, None, 0),
     (63, [108, 6, 0, 0], false, None, 24),
@@ -280,24 +280,24 @@ fn chains_of_foreign_nodes_are_written_up_to_a_level(rt: HostRuntime) {
     }
 }
 
-// Arrays of which one identifier is read by nothing.
+// Arrays with one identifier that nothing reads.
 #[derive(Clone, Copy, Debug)]
 enum Outer {
     // Structures of a flag and a number.
     Struct,
     // Lists of a flag, split by offsets.
     Lists,
-    // Lists of a flag, with offsets and with sizes that codes name.
+    // Lists of a boolean, with offsets, and with sizes by codes.
     Views,
     // Unions of a flag and a null.
     Unions,
-    // Flags that codes name.
+    // Booleans by codes.
     Flags,
     // A map from 1 to a.
     Map,
     // Extensions that are stored as flags.
     Extensions,
-    // Numbers, there by flags that codes name.
+    // Numbers under a validity by codes.
     Numbers,
 }
 
@@ -410,8 +410,8 @@ const EXTENSIONS: &str = "vortex.ext len=2 buffers=[]
 1: ?
 ";
 
-// An array, the identifier in whose place one stands that nothing reads, how many rows there are, and how they are
-// listed; none where this identifier is that of what says where the rows are.
+// An array, the identifier that is replaced by one that nothing reads, the number of rows, and their listing; none
+// where the identifier is that of a node that says where the rows are.
 const PLACES: [(Outer, &str, &str, Option<&str>); 14] = [
     (Outer::Struct, "vortex.bool", "2", Some(STRUCT)),
     (Outer::Lists, "vortex.bool", "2", Some(LISTS)),
@@ -429,12 +429,12 @@ const PLACES: [(Outer, &str, &str, Option<&str>); 14] = [
     (Outer::Numbers, "vortex.bool", "2", None),
 ];
 
-// The identifier, or x.y in the place of that one.
+// The identifier, or x.y in place of that one.
 fn renamed<'a>(id: &'a str, unread: &str) -> &'a str {
     if id == unread { "x.y" } else { id }
 }
 
-// A line for each identifier, and x.y in the place of one.
+// A line for each identifier, with x.y in place of one.
 fn lines_without(alloc: Global, ids: &Ids, unread: &str) -> Result<String, AllocError> {
     let mut lines = String::new(alloc);
     for id in ids.as_slice() {
@@ -444,7 +444,7 @@ fn lines_without(alloc: Global, ids: &Ids, unread: &str) -> Result<String, Alloc
     Ok(lines)
 }
 
-// Whether a blob at a type is kept as it was by the program, under these identifiers, and listed so, or is refused.
+// Whether the program keeps a blob at a type unchanged, under these identifiers and with this listing, or refuses it.
 fn is_kept(
     alloc: Global,
     dtype: &DType,
@@ -466,7 +466,7 @@ fn is_kept(
     }
 }
 
-// The same under a list of identifiers, one of them unread.
+// The same under a list of identifiers, one of which nothing reads.
 fn is_kept_under(
     alloc: Global,
     dtype: &DType,
@@ -494,7 +494,7 @@ fn is_kept_by(
     }
 }
 
-// The same of an array's blob.
+// The same for an array's blob.
 fn is_kept_of(alloc: Global, array: &Array, row: &(Outer, &str, &str, Option<&str>)) -> bool {
     let mut ctx = ArrayContext::empty(alloc);
     match blob_of(alloc, array, &mut ctx) {
@@ -503,7 +503,7 @@ fn is_kept_of(alloc: Global, array: &Array, row: &(Outer, &str, &str, Option<&st
     }
 }
 
-// The same of an array, once it is made.
+// The same for an array, if it was made.
 fn are_kept(alloc: Global, row: &(Outer, &str, &str, Option<&str>)) -> bool {
     match made(alloc, row.0) {
         Ok(array) => is_kept_of(alloc, &array, row),

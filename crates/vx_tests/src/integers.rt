@@ -15,7 +15,7 @@ pub const LISTING: &str = "vortex.primitive len=4 buffers=[16]\n0: 1\n1: 2\n2: 3
 
 const FIRST_ROW: &str = "vortex.primitive len=4 buffers=[16]\n0: 1\n";
 
-/// The worked blob with other words of identifiers.
+/// The worked blob with other identifiers.
 pub fn files(ids: &str) -> Files<'_> {
     of_type(&TYPE, ids)
 }
@@ -63,7 +63,7 @@ const PADDED: [&str; 11] = [
     "recode", "t", "b", "4", "i", "o", "j", "--rows", "1", "--pad", "3",
 ];
 
-// What was padded, read again.
+// The words that read again what was padded.
 const AGAIN: [&str; 7] = ["recode", "t", "o", "4", "i", "p", "q"];
 
 const LAST_PAD: [&str; 9] = [
@@ -259,7 +259,7 @@ const MANY_NULLS: [&str; 9] = [
     "1",
 ];
 
-// Whether the blob of nulls is written again by these words, and listed so.
+// Whether the blob of nulls is written again by these words, with this listing.
 fn are_nulls(alloc: Global, words: &[&str], text: &str) -> bool {
     saves_the_same(alloc, words, &nulls(&NULL_BLOB), text)
 }

@@ -37,7 +37,7 @@ fn are_same(store: &MemStore, other: &MemStore, name: &str, as_name: &str) -> bo
     }
 }
 
-// Whether a table of one row is made, and its blob is read and written again as it was.
+// Whether a table of one row is made, and its blob is read and written again unchanged.
 fn is_made(alloc: Global) -> bool {
     let mut store = MemStore::new(alloc);
     prints(alloc, &ONE_ROW, &mut store, 0, ONE_LINE)
@@ -60,7 +60,7 @@ fn a_table_is_made(rt: HostRuntime) {
 
 const MANY_ROWS: [&str; 6] = ["make", "7", "100000", "t", "b", "i"];
 
-// Whether the program ends well on the words, over an empty store, and leaves its text and its store.
+// Whether the program ends well on the words, over an empty store; its text and its store are left.
 fn made(alloc: Global, store: &mut MemStore, out: &mut MemSink) -> bool {
     ends(alloc, &MANY_ROWS, store, out, 0)
 }
@@ -121,7 +121,7 @@ const CALLS: [(u64, u8, bool, bool, bool); 4] = [
     (4, 0, true, true, true),
 ];
 
-// Whether the program ends as the row says, and prints at status 0 alone.
+// Whether the program ends as the row says, and prints only at status 0.
 fn fails(alloc: Global, row: &(u64, u8, bool, bool, bool)) -> Result<bool, StoreError> {
     let mut store = MemStore::new(alloc);
     store.fail_call(row.0)?;

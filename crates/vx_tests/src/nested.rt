@@ -34,7 +34,7 @@ enum Nested {
     Pairs,
     // Four unions of a number, a text or a flag, of which the last is null.
     Unions,
-    // Four texts that codes name, of which the third is null.
+    // Four texts by codes, of which the third is null.
     Letters,
     // Two lists of two such texts in structures.
     All,
@@ -257,7 +257,7 @@ const ALL: &str = "vortex.struct len=2 buffers=[]
 1: {[null, x79], 8}
 ";
 
-// The encodings that are shipped, without readers of extensions.
+// A session of the shipped encodings, without readers of extensions.
 fn shipped(alloc: Global) -> Result<VortexSession, WireError> {
     match ArraySession::default(alloc) {
         Ok(arrays) => Ok(VortexSession::new(arrays, ExtSession::new(alloc))),
@@ -265,14 +265,14 @@ fn shipped(alloc: Global) -> Result<VortexSession, WireError> {
     }
 }
 
-// The same, and nodes that nothing reads are written as they stand.
+// The same, in which nodes that nothing reads are written unchanged.
 fn allowing(alloc: Global) -> Result<VortexSession, WireError> {
     let mut session = shipped(alloc)?;
     session.ext.allow_unknown();
     Ok(session)
 }
 
-/// The bytes of an array's blob, whose identifiers come into a context.
+/// The bytes of an array's blob, whose identifiers are taken into a context.
 pub fn blob_of(
     alloc: Global,
     array: &Array,
@@ -293,7 +293,7 @@ pub fn lines_of(alloc: Global, ids: &Ids) -> Result<String, AllocError> {
     Ok(lines)
 }
 
-// Whether a blob at a type and length is written again by the program, under these identifiers, and listed so.
+// Whether the program writes a blob at a type and length again, under these identifiers and with this listing.
 fn is_printed(alloc: Global, dtype: &DType, blob: &[u8], ids: &str, len: &str, text: &str) -> bool {
     let words = ["recode", "t", "b", len, "i", "o", "j"];
     match dtype.write_flatbuffer_bytes(alloc) {
@@ -335,7 +335,7 @@ fn is_printed_by(
     }
 }
 
-// Whether an array's blob is written again by the program at this length, and listed so.
+// Whether the program writes an array's blob again at this length, with this listing.
 fn is_listed(alloc: Global, array: &Array, len: &str, text: &str) -> bool {
     let mut ctx = ArrayContext::empty(alloc);
     match blob_of(alloc, array, &mut ctx) {
@@ -344,7 +344,7 @@ fn is_listed(alloc: Global, array: &Array, len: &str, text: &str) -> bool {
     }
 }
 
-// The same of an array, once it is made.
+// The same for an array, if it was made.
 fn are_listed(alloc: Global, which: Nested, len: &str, text: &str) -> bool {
     match made(alloc, which) {
         Ok(array) => is_listed(alloc, &array, len, text),
@@ -352,7 +352,7 @@ fn are_listed(alloc: Global, which: Nested, len: &str, text: &str) -> bool {
     }
 }
 
-// Arrays, how many rows they have, and how they are listed.
+// Arrays, the number of their rows, and their listing.
 const LISTED: [(Nested, &str, &str); 11] = [
     (Nested::Views, "2", VIEWS),
     (Nested::SomeViews, "2", SOME_VIEWS),

@@ -1,4 +1,4 @@
-//! The program over a store in memory: how a test runs it, and what it asks of its end.
+//! The program over a store in memory: how a test runs it, and what it expects of the end.
 
 use std::alloc::Global;
 use vx_types::{Name, TypeError};
@@ -24,7 +24,7 @@ fn names(alloc: Global, words: &[&str]) -> Result<Vec<Name>, TypeError> {
     Ok(names)
 }
 
-// The type file and the blob are put into a store.
+// Puts the type file and the blob into a store.
 fn insert_two(alloc: Global, store: &mut MemStore, files: &Files<'_>) -> Result<(), StoreError> {
     store.insert(alloc, "t", files.dtype)?;
     store.insert(alloc, "b", files.blob)
@@ -53,7 +53,7 @@ pub fn holds(store: &MemStore, name: &str, bytes: &[u8]) -> bool {
     }
 }
 
-/// Whether the program ends so on these words.
+/// Whether the program ends with this status on these words.
 pub fn ends<S: Store>(
     alloc: Global,
     words: &[&str],
@@ -67,7 +67,7 @@ pub fn ends<S: Store>(
     }
 }
 
-/// Whether the program ends so on these words, and prints this.
+/// Whether the program ends with this status on these words, and prints this.
 pub fn prints<S: Store>(
     alloc: Global,
     words: &[&str],
@@ -97,12 +97,12 @@ pub fn saves(
     }
 }
 
-/// Whether these words on these files write the blob again as it was, and print this.
+/// Whether these words on these files write the blob again unchanged, and print this.
 pub fn saves_the_same(alloc: Global, words: &[&str], files: &Files<'_>, text: &str) -> bool {
     saves(alloc, words, files, (files.blob, files.ids), text)
 }
 
-/// Whether the program ends so on these words and files, whatever it prints.
+/// Whether the program ends with this status on these words and files, whatever it prints.
 pub fn ends_on(alloc: Global, words: &[&str], files: &Files<'_>, status: u8) -> bool {
     let mut out = MemSink::new(alloc);
     match store_of(alloc, files) {
@@ -138,7 +138,7 @@ pub fn with_bytes(
     Ok(blob)
 }
 
-/// The same refusal of a blob with other bytes at some places.
+/// The same refusal for a blob with other bytes at some places.
 pub fn refuses_changed(
     alloc: Global,
     words: &[&str],

@@ -30,7 +30,7 @@ const PLAIN: [&str; 7] = ["recode", "t", "b", "8", "i", "o", "j"];
 // Four rows, with the option.
 const REVISED_FOUR: [&str; 8] = ["recode", "t", "b", "4", "i", "o", "j", "--rev2"];
 
-// Eight rows, where the identifiers of a file alone may be written.
+// Eight rows, where only the identifiers of a file are allowed.
 const ALLOWING: [&str; 10] = [
     "recode", "t", "b", "8", "i", "o", "j", "--allow", "f", "--rev2",
 ];
@@ -64,14 +64,14 @@ fn four_rows_are_read_under_both_and_written_under_the_old(rt: HostRuntime) {
     assert!(rt; refuses(rt.alloc(), &WORDS, &files(SECOND), 17));
 }
 
-// The files of eight numbers, and one of the identifiers that may be written.
+// The files of eight numbers, and one of allowed identifiers.
 fn store_that_allows(alloc: Global, allowed: &str) -> Result<MemStore, StoreError> {
     let mut store = store_of(alloc, &eight(SECOND))?;
     store.insert(alloc, "f", allowed.as_bytes())?;
     Ok(store)
 }
 
-// Whether the program ends so where these identifiers may be written, and prints this.
+// Whether the program ends with this status where these identifiers are allowed, and prints this.
 fn ends_allowing(alloc: Global, allowed: &str, status: u8, text: &str) -> bool {
     match store_that_allows(alloc, allowed) {
         Ok(mut store) => prints(alloc, &ALLOWING, &mut store, status, text),

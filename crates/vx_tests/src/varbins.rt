@@ -85,7 +85,7 @@ fn content_is_judged(rt: HostRuntime) {
     }
 }
 
-// The row of so many bytes, of at most 16 bits, and its two offsets.
+// The row of `len` bytes, and its two offsets of 16 bits.
 fn large_row(alloc: Global, len: u16) -> Result<Vec<u8>, AllocError> {
     let mut row = vec![in alloc; 0xab; len as usize]?;
     row.extend_from_slice(&[0, 0])?;
@@ -93,7 +93,7 @@ fn large_row(alloc: Global, len: u16) -> Result<Vec<u8>, AllocError> {
     Ok(row)
 }
 
-// The blob of one row of so many bytes.
+// The blob of one row of `len` bytes.
 fn large_blob(alloc: Global, len: u16) -> Result<Vec<u8>, AllocError> {
     let mut blob = large_row(alloc, len)?;
     let message = large_message(alloc, len)?;
@@ -101,14 +101,14 @@ fn large_blob(alloc: Global, len: u16) -> Result<Vec<u8>, AllocError> {
     Ok(blob)
 }
 
-// Its message.
+// The message of that blob.
 fn large_message(alloc: Global, len: u16) -> Result<Vec<u8>, AllocError> {
     let low = (len % 256) as u8;
     let high = (len / 256) as u8;
     with_bytes(alloc, &LARGE_MESSAGE, &[(216, low), (217, high)])
 }
 
-// A store of the blob of one row of so many bytes.
+// A store of the blob of one row of `len` bytes.
 fn store_of_large(alloc: Global, len: u16) -> Result<MemStore, StoreError> {
     let blob = large_blob(alloc, len)?;
     let files = Files {
@@ -119,7 +119,7 @@ fn store_of_large(alloc: Global, len: u16) -> Result<MemStore, StoreError> {
     store_of(alloc, &files)
 }
 
-// Whether so many bytes are printed over a store, the last of them for a row that is large.
+// Whether `count` bytes are printed over a store, the last of them for a row that is large.
 fn prints_so_many(alloc: Global, store: &mut MemStore, count: usize, large: bool) -> bool {
     let mut out = MemSink::new(alloc);
     ends(alloc, &ONE_ROW, store, &mut out, 0)
@@ -127,7 +127,7 @@ fn prints_so_many(alloc: Global, store: &mut MemStore, count: usize, large: bool
         && out.text().ends_with(b"\n0: (large)\n") == large
 }
 
-// The same for one row of so many bytes.
+// The same for one row of `len` bytes.
 fn prints_row(alloc: Global, len: u16, count: usize, large: bool) -> bool {
     match store_of_large(alloc, len) {
         Ok(mut store) => prints_so_many(alloc, &mut store, count, large),

@@ -43,7 +43,7 @@ fn texts(blob: &[u8]) -> Files<'_> {
     }
 }
 
-// Whether a blob is written again as it was, and listed as the worked texts.
+// Whether a blob is written again unchanged, and listed as the worked texts.
 fn is_listed(alloc: Global, blob: &[u8]) -> bool {
     saves_the_same(alloc, &FIVE_ROWS, &texts(blob), LISTING)
 }
@@ -53,7 +53,7 @@ fn views_are_listed_by_their_bytes(rt: HostRuntime) {
     assert!(rt; is_listed(rt.alloc(), &BLOB));
 }
 
-// Places in the views of null rows, and other bytes there.
+// Places in the views of null rows, where nothing is looked at, and other bytes there.
 const UNTOLD: [(usize, u8); 3] = [(52, 36), (84, 255), (63, 1)];
 
 // Whether the blob with another byte is listed as the worked texts.

@@ -27,10 +27,10 @@ fn parted(alloc: Global) -> Made {
     lists(alloc, counts(alloc), offsets, There::Always)
 }
 
-// What a typed child is made of.
+// The typed child.
 #[derive(Clone, Copy, Debug)]
 enum Typed {
-    // None stands.
+    // There is none.
     None,
     Counts,
     Lists,
@@ -82,7 +82,7 @@ const EXTENSIONS: &str = "vortex.variant len=2 buffers=[]
 1: ?
 ";
 
-// A typed child, how the variants are listed, and the status where what is unknown is not allowed.
+// A typed child, the listing of the variants, and the status where what is unknown is not allowed.
 #[derive(Clone, Copy, Debug)]
 struct Row {
     typed: Typed,
@@ -90,7 +90,7 @@ struct Row {
     status: u8,
 }
 
-// The metadata are looked at before the identifier of the core.
+// The metadata is looked at before the identifier of the core.
 const ROWS: [Row; 4] = [
     Row {
         typed: Typed::None,
@@ -114,12 +114,12 @@ const ROWS: [Row; 4] = [
     },
 ];
 
-// Whether files are kept as they were and listed so where what is unknown is allowed, and refused where it is not.
+// Whether files are kept unchanged with this listing where what is unknown is allowed, and refused where it is not.
 fn stay(alloc: Global, files: &Files<'_>, row: &Row) -> bool {
     saves_the_same(alloc, &ALLOWING, files, row.text) && refuses(alloc, &WORDS, files, row.status)
 }
 
-// The same of a blob at a type, under these identifiers.
+// The same for a blob at a type, under these identifiers.
 fn is_kept(alloc: Global, dtype: &DType, blob: &[u8], ids: &str, row: &Row) -> bool {
     match dtype.write_flatbuffer_bytes(alloc) {
         Ok(message) => {
@@ -146,7 +146,7 @@ fn is_kept_by(alloc: Global, dtype: &DType, blob: &[u8], ctx: &ArrayContext, row
     }
 }
 
-// The same of an array's blob.
+// The same for an array's blob.
 fn is_kept_of(alloc: Global, array: &Array, row: &Row) -> bool {
     let mut ctx = ArrayContext::empty(alloc);
     match blob_of(alloc, array, &mut ctx) {
@@ -155,7 +155,7 @@ fn is_kept_of(alloc: Global, array: &Array, row: &Row) -> bool {
     }
 }
 
-// The same of an array, once it is made.
+// The same for an array, if it was made.
 fn are_kept(alloc: Global, row: &Row) -> bool {
     match made(alloc, row.typed) {
         Ok(array) => is_kept_of(alloc, &array, row),
