@@ -1,4 +1,4 @@
-//! What is asked of a blob, and the number of its answer.
+//! What is asked of a blob, and the number of the result.
 
 use crate::samples::{begun, has_ids, ids_of, session_of};
 use std::alloc::Global;
@@ -14,7 +14,7 @@ pub(crate) enum Kind {
     Null,
     /// Signed numbers of four bytes.
     I32,
-    /// Numbers of a byte without a sign, some of which may be null.
+    /// Unsigned numbers of a byte, some of which may be null.
     SomeBytes,
     /// Texts.
     Texts,
@@ -30,7 +30,7 @@ fn type_of(kind: Kind) -> DType {
     }
 }
 
-/// What a blob is read and written by.
+/// How a blob is read and written.
 #[derive(Clone, Copy)]
 pub(crate) struct Asked<'a> {
     /// The type.
@@ -45,7 +45,7 @@ pub(crate) struct Asked<'a> {
     pub offset: usize,
 }
 
-/// Four signed numbers of four bytes, under the identifier that they are written by.
+/// Four signed numbers of four bytes, under the identifier by which they are written.
 pub(crate) const INTEGERS: Asked<'static> = Asked {
     kind: Kind::I32,
     len: 4,
@@ -54,7 +54,7 @@ pub(crate) const INTEGERS: Asked<'static> = Asked {
     offset: 0,
 };
 
-// The number of the answer, 0 where it is no refusal.
+// The number of the result: 0 for Ok, else the refusal's.
 fn number_by(
     alloc: Global,
     blob: ByteBuffer,
@@ -76,7 +76,7 @@ fn number_by(
     }
 }
 
-// The same of bytes; 1 where memory is wanted for what is asked.
+// The same for bytes; 1 where allocation fails for the arguments.
 fn number_under(
     alloc: Global,
     blob: &[u8],
@@ -93,7 +93,7 @@ fn number_under(
     number_by(alloc, blob, asked, &ReadContext::new(ids), ctx, session)
 }
 
-/// The same by the encodings that are shipped.
+/// The same with the shipped encodings.
 pub(crate) fn number(alloc: Global, blob: &[u8], asked: &Asked<'_>, ctx: &mut ArrayContext) -> u8 {
     match session_of(alloc, asked.unknown) {
         Ok(session) => number_under(alloc, blob, asked, ctx, &session),
@@ -101,7 +101,8 @@ pub(crate) fn number(alloc: Global, blob: &[u8], asked: &Asked<'_>, ctx: &mut Ar
     }
 }
 
-/// The number of the answer where the context begins with `a`, or 1 where the context then has other identifiers than these.
+/// The number of the result where the context begins with `a`, or 1 where the context then has other identifiers than
+/// these.
 pub(crate) fn number_leaving(alloc: Global, blob: &[u8], asked: &Asked<'_>, left: &[&str]) -> u8 {
     let Ok(mut ctx) = begun(alloc, &["a"]) else {
         return 1;

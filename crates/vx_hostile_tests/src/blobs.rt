@@ -1,4 +1,4 @@
-//! Hostile blobs, recoded from a context that has an identifier: their answers, and what is left of the context.
+//! Hostile blobs, recoded from a context that has an identifier: the results, and what is left of the context.
 
 use crate::asked::{Asked, INTEGERS, Kind, number_leaving};
 use crate::levels::levels_over_none;
@@ -7,7 +7,7 @@ use std::alloc::{AllocError, Global};
 use vx_serde::WireError;
 use vx_serde_tests::files::{BLOB, BLOB_OF_SECOND};
 
-// Parts of the worked blob, other bytes there, and the answer.
+// Parts of the worked blob, other bytes there, and the result.
 const PARTS: [(&str, &[(usize, u8)], u8); 14] = [
     ("message of 149 bytes", &[(164, 149)], 11),
     ("message of 164 bytes", &[(164, 164)], 11),
@@ -40,7 +40,7 @@ const PARTS: [(&str, &[(usize, u8)], u8); 14] = [
     ("least value of no bytes", &[(116, 4)], 22),
 ];
 
-// The answer of the worked blob with other bytes at some places, which leaves the context as it was.
+// The result for the worked blob with other bytes at some places, which leaves the context unchanged.
 fn number_of_part(alloc: Global, changes: &[(usize, u8)]) -> u8 {
     match changed(alloc, &BLOB, changes) {
         Ok(blob) => number_leaving(alloc, blob.as_slice(), &INTEGERS, &["a"]),
@@ -62,13 +62,14 @@ enum Sample {
     Integers,
     // The same, whose node names the second identifier.
     OfSecond,
-    // A row of bytes that are no text.
+    // A row of bytes that are not UTF-8.
     NoText,
     // A number over a validity.
     OneThere,
     // A code over a null.
     Codes,
-    // So many levels of nodes that hold the next one twice, over a node that is none, and the length of their message.
+    // This many levels of nodes that hold the next one twice, over a node that is ill-formed, and the length of their
+    // message.
     OverNone(usize, u32),
 }
 
@@ -90,7 +91,7 @@ const UNREAD: Asked<'static> = Asked {
     ..INTEGERS
 };
 
-// A row more than there is.
+// One row more than there is.
 const ONE_MORE: Asked<'static> = Asked { len: 5, ..INTEGERS };
 
 // The last position.
@@ -117,7 +118,7 @@ const UNREAD_VALIDITY: Asked<'static> = Asked {
     offset: 0,
 };
 
-// As many codes as can be counted that nothing reads, where that is allowed.
+// As many codes as can be counted, which nothing reads, where that is allowed.
 const UNREAD_CODES: Asked<'static> = Asked {
     kind: Kind::Null,
     len: usize::MAX,
@@ -135,7 +136,7 @@ const KEPT: Asked<'static> = Asked {
     offset: 0,
 };
 
-// A blob, what is asked of it, its answer, and what is left of the context.
+// A blob, what is asked of it, the result, and what is left of the context.
 const ROWS: [(Sample, Asked<'static>, u8, &[&str]); 8] = [
     (Sample::Integers, INTEGERS, 0, &["a", "vortex.primitive"]),
     (Sample::OfSecond, INTEGERS, 16, &["a"]),
@@ -147,7 +148,7 @@ const ROWS: [(Sample, Asked<'static>, u8, &[&str]); 8] = [
     (Sample::Integers, LAST, 24, &["a", "vortex.primitive"]),
 ];
 
-// The answer of a blob, where it leaves this of the context.
+// The result for a blob, where it leaves this of the context.
 fn number_of(alloc: Global, sample: Sample, asked: &Asked<'_>, left: &[&str]) -> u8 {
     match blob_of(alloc, sample) {
         Ok(blob) => number_leaving(alloc, blob.as_slice(), asked, left),
@@ -178,7 +179,7 @@ fn each_front_of_the_blob_is_refused(rt: HostRuntime) {
     }
 }
 
-// The worked blob whose message is cut after so many bytes.
+// The worked blob whose message is cut after `len` bytes.
 fn cut(alloc: Global, len: u8) -> Result<Vec<u8>, AllocError> {
     let mut blob = Vec::from_slice(alloc, &BLOB[..16])?;
     blob.extend_from_slice(&BLOB[16..164][..usize::from(len).min(148)])?;
@@ -186,7 +187,7 @@ fn cut(alloc: Global, len: u8) -> Result<Vec<u8>, AllocError> {
     Ok(blob)
 }
 
-// Its answer, which leaves the context as it was.
+// The result for it, which leaves the context unchanged.
 fn number_of_cut(alloc: Global, len: u8) -> u8 {
     match cut(alloc, len) {
         Ok(blob) => number_leaving(alloc, blob.as_slice(), &INTEGERS, &["a"]),

@@ -1,4 +1,4 @@
-//! The commands of the program over stores and outputs of which one call fails, and over blobs that weigh much.
+//! The commands of the program over stores and outputs of which one call fails, and over heavy blobs.
 
 use crate::levels::levels;
 use crate::program::{COMMANDS, Command, FILES, are_same_at, are_same_but, status_of, store_of};
@@ -30,15 +30,15 @@ fn is_done(alloc: Global, command: &Command<'_>, store: &mut MemStore) -> bool {
     status_of(alloc, command.words, store, &mut out) == 0 && out.text() == command.text.as_bytes()
 }
 
-// Whether the program ends so over a store, and prints at status 0 alone.
+// Whether the program ends with this status over a store, and prints only at status 0.
 fn ends(alloc: Global, command: &Command<'_>, store: &mut MemStore, status: u8) -> bool {
     let mut out = MemSink::new(alloc);
     let text = if status == 0 { command.text } else { "" };
     status_of(alloc, command.words, store, &mut out) == status && out.text() == text.as_bytes()
 }
 
-// Whether the program, where this call of the store fails, has its status, has saved the outputs in order up to it, and
-// leaves all else as it was.
+// Whether the program, where this call of the store fails, ends with its status, has saved the outputs before it in
+// order, and leaves all else unchanged.
 fn fails_at(alloc: Global, command: &Command<'_>, call: u64) -> Result<bool, StoreError> {
     let before = store_of(alloc, &FILES)?;
     let mut done = store_of(alloc, &FILES)?;
@@ -53,7 +53,7 @@ fn fails_at(alloc: Global, command: &Command<'_>, call: u64) -> Result<bool, Sto
     )
 }
 
-// Whether that is so for each call, and for one that does not come.
+// Whether that holds for each call, and for one past the last.
 fn each_call_fails(alloc: Global, command: &Command<'_>) -> bool {
     let calls = command.loads.saturating_add(command.saves.len() as u64);
     for call in 1..=calls.saturating_add(1) {
@@ -71,7 +71,8 @@ fn each_call_of_the_store_fails_in_turn(rt: HostRuntime) {
     }
 }
 
-// Whether the program, where the output fails after so many bytes, has saved what it saves, and has printed those.
+// Whether the program, where the output fails after this many bytes, has saved its outputs, and has printed those
+// bytes.
 fn is_cut_at(
     alloc: Global,
     command: &Command<'_>,
@@ -87,7 +88,7 @@ fn is_cut_at(
     )
 }
 
-// Whether that is so after each fifth byte.
+// Whether that holds after each fifth byte.
 fn each_write_fails(alloc: Global, command: &Command<'_>) -> Result<bool, StoreError> {
     let mut done = store_of(alloc, &FILES)?;
     if !is_done(alloc, command, &mut done) {
@@ -124,7 +125,7 @@ const KEEPING: [&str; 10] = [
     "0",
 ];
 
-// Whether the program ends so on a blob of nodes that nothing reads, and saves at status 0 alone.
+// Whether the program ends with this status on a blob of nodes that nothing reads, and saves only at status 0.
 fn ends_on(alloc: Global, blob: &[u8], status: u8) -> Result<bool, StoreError> {
     let files: [(&str, &[u8]); 3] = [("t", &NULL_TYPE), ("b", blob), ("i", b"x.y\n")];
     let before = store_of(alloc, &files)?;
@@ -137,7 +138,7 @@ fn ends_on(alloc: Global, blob: &[u8], status: u8) -> Result<bool, StoreError> {
     Ok(ended && out.text().is_empty() && are_same_but(&store, &before, &[]))
 }
 
-// The same of so many levels of nodes that hold the next one twice.
+// The same for `count` levels of nodes that hold the next one twice.
 fn ends_levels(alloc: Global, count: usize, len: u32, status: u8) -> Result<bool, StoreError> {
     let blob = levels(alloc, count, len)?;
     ends_on(alloc, blob.as_slice(), status)
@@ -149,7 +150,7 @@ fn eighteen_levels_are_written(rt: HostRuntime) {
     assert!(rt; ends_levels(rt.alloc(), 18, 542, 0) == Ok(true));
 }
 
-// Of 19 levels 1,048,575 tables would be written, and of 20 as many are read.
+// With 19 levels 1,048,575 tables would be written, and with 20 as many are read.
 #[test]
 fn nineteen_levels_are_not_written(rt: HostRuntime) {
     assert!(rt; ends_levels(rt.alloc(), 19, 572, 24) == Ok(true));

@@ -1,4 +1,5 @@
-//! Writing that is refused after an identifier that came: a context has its old identifiers, and then those of the tree.
+//! Writing that is refused after an identifier was taken: a context has its old identifiers, and then those of the
+//! tree.
 
 use crate::asked::{Asked, Kind, number};
 use crate::samples::{blob_of_one_there, has_ids, limited, one_there, session_of};
@@ -8,7 +9,7 @@ use vx_flat::Builder;
 use vx_registry::{ArrayContext, VortexSession};
 use vx_serde::{ArrayExt, ArrayNodeFlatBuffer, SerializeOptions, WireError};
 
-// A number over a validity, under the identifiers that they are written by.
+// A number over a validity, under the identifiers by which they are written.
 const ONE_THERE: Asked<'static> = Asked {
     kind: Kind::SomeBytes,
     len: 1,
@@ -22,13 +23,13 @@ const ONE_THERE: Asked<'static> = Asked {
 enum Way {
     // As a blob at a position.
     Blob(usize),
-    // As a node in a message of the caller's.
+    // As a node in a message of the caller.
     Node,
     // As the blob that was read.
     Again,
 }
 
-// The number of the answer of writing an array as a blob.
+// The number of the result of writing an array as a blob.
 fn number_of_blob(
     alloc: Global,
     array: &Array,
@@ -47,7 +48,7 @@ fn number_of_blob(
     }
 }
 
-// The same as a node.
+// The same for writing it as a node.
 fn write_node(
     alloc: Global,
     array: &Array,
@@ -59,7 +60,7 @@ fn write_node(
     node.try_write_flatbuffer(alloc, &mut builder)
 }
 
-// The same by a way that needs the array.
+// The same for a way that needs the array.
 fn number_of_array(
     alloc: Global,
     array: &Array,
@@ -76,7 +77,7 @@ fn number_of_array(
     }
 }
 
-// The same of a number over a validity, by the encodings that are shipped.
+// The same for a number over a validity, with the shipped encodings.
 fn number_of_one_there(alloc: Global, way: Way, ctx: &mut ArrayContext) -> u8 {
     let Ok(array) = one_there(alloc) else {
         return 1;
@@ -87,7 +88,7 @@ fn number_of_one_there(alloc: Global, way: Way, ctx: &mut ArrayContext) -> u8 {
     }
 }
 
-// The same of its blob.
+// The same for its blob.
 fn number_again(alloc: Global, ctx: &mut ArrayContext) -> u8 {
     match blob_of_one_there(alloc) {
         Ok(blob) => number(alloc, blob.as_slice(), &ONE_THERE, ctx),
@@ -95,7 +96,7 @@ fn number_again(alloc: Global, ctx: &mut ArrayContext) -> u8 {
     }
 }
 
-// The same by any way.
+// The same for any way.
 fn number_by(alloc: Global, way: Way, ctx: &mut ArrayContext) -> u8 {
     match way {
         Way::Again => number_again(alloc, ctx),
@@ -103,8 +104,8 @@ fn number_by(alloc: Global, way: Way, ctx: &mut ArrayContext) -> u8 {
     }
 }
 
-// The number of the answer where a context that begins with `a` allows these identifiers, or 1 where others are left of it
-// than those.
+// The number of the result where a context that begins with `a` allows these identifiers, or 1 where others than those
+// are left in it.
 fn number_leaving(alloc: Global, way: Way, allowed: &[&str], left: &[&str]) -> u8 {
     let Ok(mut ctx) = limited(alloc, &["a"], allowed) else {
         return 1;
@@ -119,7 +120,7 @@ fn number_leaving(alloc: Global, way: Way, allowed: &[&str], left: &[&str]) -> u
 
 const BOTH: [&str; 2] = ["vortex.bool", "vortex.primitive"];
 
-// A way of writing, what is allowed, the answer, and what is left of the context.
+// A way of writing, what is allowed, the result, and what is left of the context.
 const ROWS: [(Way, &[&str], u8, &[&str]); 9] = [
     (Way::Blob(0), &["x.y"], 23, &["a"]),
     (Way::Blob(0), &["vortex.bool"], 23, &["a"]),

@@ -1,4 +1,4 @@
-//! Tests of hostile bytes, of refused memory and of failing stores and outputs: which answer comes, and what is left.
+//! Tests of hostile bytes, of refused memory and of failing stores and outputs: which result comes, and what is left.
 #![tactic(auto)]
 
 #[cfg(test)]

@@ -1,4 +1,4 @@
-//! Calls of which some growth may be refused: each test holds whichever is refused, and what stands afterwards is what stood
+//! Calls in which an allocation may fail: each test holds whichever fails, and what stands afterwards is what stood
 //! before, or what the call was to leave.
 
 use crate::asked::{Asked, Kind, number};
@@ -12,8 +12,8 @@ use vx_serde::{ArrayExt, SerializeOptions, WireError};
 use vx_types::{Id, TypeError};
 use vxcat_core::{MemSink, MemStore, StoreError};
 
-// Whether the program over a store ends well or for allocation failure, and leaves what its status says. A write of the output
-// that finds no memory is a fault.
+// Whether the program over a store ends well or with allocation failure, and leaves what its status says. A write of
+// the output whose memory cannot be allocated is a fault.
 fn ends_well(
     alloc: Global,
     command: &Command<'_>,
@@ -34,7 +34,7 @@ fn ends_well(
         && (status == 1 || are_same_at(store, done, command.saves))
 }
 
-// The same over the files of the tests; the outputs are those of an earlier run, which may have wanted memory.
+// The same over the files of the tests; the outputs are those of an earlier run, which may have failed to allocate.
 fn ends_so(alloc: Global, command: &Command<'_>) -> Result<bool, StoreError> {
     let before = store_of(alloc, &FILES)?;
     let mut done = store_of(alloc, &FILES)?;
@@ -58,7 +58,7 @@ fn is_entry(session: &ArraySession, id: &Id, entry: Option<Entry>) -> bool {
     session.reader(id) == entry && session.writer(id) == entry
 }
 
-// Whether flags are registered beside numbers, or handed back, and numbers are found as before.
+// Whether booleans are registered beside numbers, or handed back, and numbers are found as before.
 fn is_whole(session: &mut ArraySession, flags: &Id, numbers: &Id) -> bool {
     let whole = match session.register(PluginEntry::Shipped(Encoding::Bool)) {
         Ok(()) => is_entry(session, flags, Some(Entry::Shipped(Encoding::Bool))),
@@ -71,7 +71,7 @@ fn is_whole(session: &mut ArraySession, flags: &Id, numbers: &Id) -> bool {
     whole && is_entry(session, numbers, Some(Entry::Shipped(Encoding::Primitive)))
 }
 
-// The same over a session of numbers alone.
+// The same for a session of numbers alone.
 fn registers(alloc: Global) -> Result<bool, TypeError> {
     let flags = Id::new(alloc, "vortex.bool")?;
     let numbers = Id::new(alloc, "vortex.primitive")?;
@@ -92,7 +92,7 @@ fn an_entry_is_registered_whole_or_handed_back(rt: HostRuntime) {
     assert!(rt; registers(rt.alloc()) != Ok(false));
 }
 
-// How many identifiers a context has, where they are these or the first of them, in this order; else none.
+// The number of a context's identifiers, if they are these or the first of them, in this order.
 fn count_of(alloc: Global, ctx: &ArrayContext, texts: &[&str]) -> Result<usize, RegistryError> {
     let ids = ctx.to_ids(alloc)?;
     for (id, text) in ids.as_slice().iter().zip(texts) {
@@ -107,7 +107,7 @@ fn count_of(alloc: Global, ctx: &ArrayContext, texts: &[&str]) -> Result<usize, 
     })
 }
 
-// Whether an identifier comes last into a context, or nothing does.
+// Whether an identifier is appended to a context, or nothing is.
 fn comes(alloc: Global, ctx: &mut ArrayContext, id: &Id) -> Result<bool, RegistryError> {
     let place = ctx.intern(id);
     let count = count_of(alloc, ctx, &["a", "b"])?;
@@ -117,7 +117,7 @@ fn comes(alloc: Global, ctx: &mut ArrayContext, id: &Id) -> Result<bool, Registr
     })
 }
 
-// The same of the second identifier.
+// The same for the second identifier.
 fn interns(alloc: Global) -> Result<bool, RegistryError> {
     let Ok(id) = Id::new(alloc, "b") else {
         return Err(RegistryError::OutOfMemory);
@@ -136,7 +136,7 @@ fn an_identifier_comes_whole_or_not_at_all(rt: HostRuntime) {
 // The identifiers of a number over a validity, after one.
 const GROWN: [&str; 3] = ["a", "vortex.primitive", "vortex.bool"];
 
-// Whether what is left of a context is all, or where an answer wants memory, some first of them.
+// Whether a context has all identifiers, or, where allocation failed, some first of them.
 fn is_left(alloc: Global, ctx: &ArrayContext, number: u8) -> Result<bool, RegistryError> {
     let count = count_of(alloc, ctx, &GROWN)?;
     Ok(match number {
@@ -146,7 +146,7 @@ fn is_left(alloc: Global, ctx: &ArrayContext, number: u8) -> Result<bool, Regist
     })
 }
 
-// The number of the answer of writing an array.
+// The number of the result of writing an array.
 fn number_of(alloc: Global, array: &Array, ctx: &mut ArrayContext, session: &VortexSession) -> u8 {
     let options = SerializeOptions::default();
     match array.serialize(alloc, ctx, session, &options).err() {
@@ -155,7 +155,7 @@ fn number_of(alloc: Global, array: &Array, ctx: &mut ArrayContext, session: &Vor
     }
 }
 
-// The same of a number over a validity, by the encodings that are shipped.
+// The same for a number over a validity, with the shipped encodings.
 fn number_written(alloc: Global, ctx: &mut ArrayContext) -> u8 {
     let Ok(array) = one_there(alloc) else {
         return 1;
@@ -166,7 +166,7 @@ fn number_written(alloc: Global, ctx: &mut ArrayContext) -> u8 {
     }
 }
 
-// A number over a validity, under the identifiers that they are written by.
+// A number over a validity, under the identifiers by which they are written.
 const ONE_THERE: Asked<'static> = Asked {
     kind: Kind::SomeBytes,
     len: 1,
@@ -175,7 +175,7 @@ const ONE_THERE: Asked<'static> = Asked {
     offset: 0,
 };
 
-// The number of the answer of writing its blob again.
+// The number of the result of writing its blob again.
 fn number_again(alloc: Global, ctx: &mut ArrayContext) -> u8 {
     match blob_of_one_there(alloc) {
         Ok(blob) => number(alloc, blob.as_slice(), &ONE_THERE, ctx),

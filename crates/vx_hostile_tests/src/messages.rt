@@ -18,7 +18,7 @@ fn around(alloc: Global, key: u8, inner: &[u8]) -> Result<Vec<u8>, AllocError> {
     Ok(bytes)
 }
 
-// So many lists in one another, the innermost empty. A list nests two messages: a value, and a list of values.
+// This many lists in one another, the innermost empty. A list nests two messages: a value, and a list of values.
 fn lists(alloc: Global, count: usize) -> Result<Vec<u8>, AllocError> {
     let mut bytes = around(alloc, 0x4a, &[])?;
     for _ in 1..count {
@@ -28,14 +28,14 @@ fn lists(alloc: Global, count: usize) -> Result<Vec<u8>, AllocError> {
     Ok(bytes)
 }
 
-// Whether bytes are read as the message of a value, and written again as they were; or why they are not.
+// Whether bytes are read as the message of a value, and written again unchanged; or their refusal.
 fn is_read(alloc: Global, bytes: &[u8]) -> Result<bool, ProtoError> {
     let message = pb::ScalarValue::decode(alloc, bytes)?;
     let written = message.encode_to_vec(alloc)?;
     Ok(written.as_slice() == bytes)
 }
 
-// The same of so many lists.
+// The same for this many lists.
 fn are_lists(alloc: Global, count: usize) -> Result<bool, ProtoError> {
     let bytes = lists(alloc, count)?;
     is_read(alloc, bytes.as_slice())

@@ -5,7 +5,7 @@ use vx_serde_tests::files::{BLOB, TYPE};
 use vx_types::{Name, TypeError};
 use vxcat_core::{MemSink, MemStore, Store, StoreError, run};
 
-/// The files of a store: the worked type, blob and identifiers, the identifiers that may be written, and an expression.
+/// The files of a store: the worked type, blob and identifiers, the allowed identifiers, and an expression.
 pub(crate) const FILES: [(&str, &[u8]); 5] = [
     ("t", &TYPE),
     ("b", &BLOB),
@@ -14,7 +14,7 @@ pub(crate) const FILES: [(&str, &[u8]); 5] = [
     ("e", b"\x0a\x0bvortex.root\x1a\x00"),
 ];
 
-/// A command: its words, how many files it loads, those that it saves, in order, and what it prints.
+/// A command: its words, the number of files that it loads, those that it saves, in order, and what it prints.
 #[derive(Debug)]
 pub(crate) struct Command<'a> {
     pub words: &'a [&'a str],
@@ -102,7 +102,7 @@ fn names(alloc: Global, words: &[&str]) -> Result<Vec<Name>, TypeError> {
     Ok(names)
 }
 
-/// The status with which the program ends on these words; 1 where memory is wanted for them.
+/// The status with which the program ends on these words; 1 where allocation fails for them.
 pub(crate) fn status_of<S: Store>(
     alloc: Global,
     words: &[&str],
@@ -127,7 +127,7 @@ fn is_among(names: &[&str], name: &str) -> bool {
 
 const NAMES: [&str; 8] = ["t", "b", "i", "f", "e", "o", "j", "p"];
 
-/// Whether the same stands in two stores at each name but some.
+/// Whether two stores hold the same at each name but some.
 pub(crate) fn are_same_but(store: &MemStore, other: &MemStore, names: &[&str]) -> bool {
     for name in &NAMES {
         if !is_among(names, name) && store.get(name) != other.get(name) {
@@ -137,7 +137,7 @@ pub(crate) fn are_same_but(store: &MemStore, other: &MemStore, names: &[&str]) -
     true
 }
 
-/// Whether the same stands in two stores at these names.
+/// Whether two stores hold the same at these names.
 pub(crate) fn are_same_at(store: &MemStore, other: &MemStore, names: &[&str]) -> bool {
     for name in names {
         if store.get(name) != other.get(name) {

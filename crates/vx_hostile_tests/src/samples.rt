@@ -1,4 +1,4 @@
-//! What the tests share: the sessions, contexts and blobs that they read and write by.
+//! The sessions, contexts and blobs of the tests.
 
 use std::alloc::{AllocError, Global};
 use vx_arrays::{Array, ArrayError, VarBinArray};
@@ -9,7 +9,7 @@ use vx_serde::{ArrayExt, SerializeOptions, WireError};
 use vx_type_wire::ExtSession;
 use vx_types::{DType, Id, Ids, Nullability, PType, TypeError};
 
-// The encodings that are shipped, without readers of extensions.
+// A session of the shipped encodings, without readers of extensions.
 fn shipped(alloc: Global) -> Result<VortexSession, WireError> {
     match ArraySession::default(alloc) {
         Ok(arrays) => Ok(VortexSession::new(arrays, ExtSession::new(alloc))),
@@ -17,14 +17,14 @@ fn shipped(alloc: Global) -> Result<VortexSession, WireError> {
     }
 }
 
-// The same, and nodes that nothing reads are kept.
+// The same, in which nodes that nothing reads are kept.
 fn keeping(alloc: Global) -> Result<VortexSession, WireError> {
     let mut session = shipped(alloc)?;
     session.ext.allow_unknown();
     Ok(session)
 }
 
-/// The encodings that are shipped, without readers of extensions; what is unknown may be allowed.
+/// A session of the shipped encodings, without readers of extensions; what is unknown may be allowed.
 pub fn session_of(alloc: Global, unknown: bool) -> Result<VortexSession, WireError> {
     if unknown {
         keeping(alloc)
@@ -83,12 +83,12 @@ pub fn has_ids(alloc: Global, ctx: &ArrayContext, texts: &[&str]) -> bool {
     }
 }
 
-/// A byte of the value 1, there: numbers over a validity, two nodes.
+/// A byte of the value 1, not null: numbers over a validity, two nodes.
 pub fn one_there(alloc: Global) -> Made {
     numbers(alloc, PType::U8, &[1], There::Bits(1))
 }
 
-// A byte that is no text.
+// A byte that is not UTF-8.
 fn no_letter(alloc: Global) -> Result<BufferHandle, ArrayError> {
     let buffer = ByteBuffer::copy_from(alloc, &[255])?;
     Ok(BufferHandle::new_host(buffer))
@@ -112,7 +112,7 @@ fn blob_by(
     Ok(Vec::from_slice(alloc, buffers.join(alloc)?.as_slice())?)
 }
 
-// The same by the encodings that are shipped.
+// The same with the shipped encodings.
 fn blob_of(alloc: Global, array: &Array) -> Result<Vec<u8>, WireError> {
     let session = session_of(alloc, false)?;
     let mut ctx = ArrayContext::empty(alloc);
@@ -122,7 +122,7 @@ fn blob_of(alloc: Global, array: &Array) -> Result<Vec<u8>, WireError> {
     blob
 }
 
-// The same of an array, once it is made.
+// The same for an array, if it was made.
 fn blob_of_made(alloc: Global, array: Made) -> Result<Vec<u8>, WireError> {
     match array {
         Ok(array) => blob_of(alloc, &array),
@@ -130,7 +130,7 @@ fn blob_of_made(alloc: Global, array: Made) -> Result<Vec<u8>, WireError> {
     }
 }
 
-/// The blob of bytes that are no text, in one row.
+/// The blob of bytes that are not UTF-8, in one row.
 pub fn blob_of_no_text(alloc: Global) -> Result<Vec<u8>, WireError> {
     blob_of_made(alloc, no_text(alloc))
 }
