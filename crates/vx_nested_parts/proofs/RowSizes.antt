@@ -1,4 +1,4 @@
--- What the texts of rows with rows in them go down by.
+-- The measure of the recursion over rows with rows in them.
 use Rattle.std.proofs.Common.{ℕ, zero, suc, ◌≡◌, ◌≤◌, ◌<◌, List, [], ◌∷◌, ap, length, get_or, arith}
 use Rattle.vx_trees.specs.Rose.{roses_of}
 use Rattle.vx_trees.specs.Walks.{nodes, nodes_of}

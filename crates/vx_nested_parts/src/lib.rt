@@ -1,4 +1,4 @@
-//! The parts of which tests make arrays whose rows are made of other arrays' rows, and the texts of such rows.
+//! The parts of nested arrays for tests, and the texts of their rows.
 #![tactic(auto)]
 
 pub mod parts;

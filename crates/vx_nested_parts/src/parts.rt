@@ -15,13 +15,13 @@ use vx_types::{
 /// Which of at most eight rows are there.
 #[derive(Clone, Copy, Debug)]
 pub enum There {
-    /// All, since the type lets none be null.
+    /// All rows, since the type lets none be null.
     Always,
-    /// All, though the type lets rows be null.
+    /// All rows, though the type lets rows be null.
     All,
-    /// Those whose bit is set, from the lowest on.
+    /// The rows whose bit is set, from the lowest bit on.
     Bits(u8),
-    /// The same, though the type lets none be null: such arrays are refused.
+    /// The same, though the type lets no row be null: such arrays are refused.
     Unasked(u8),
 }
 
@@ -31,7 +31,7 @@ pub type Made = Result<Array, ArrayError>;
 /// Arrays, or why one of them is not made.
 pub type AllMade = Result<Arrays, ArrayError>;
 
-// What is made of types, or that memory was wanted: tests write no types that are refused.
+// The result of a call of types; each refusal becomes `OutOfMemory`, as tests write no types that are refused.
 fn typed<T: Drop>(made: Result<T, TypeError>) -> Result<T, ArrayError> {
     match made {
         Ok(value) => Ok(value),
@@ -57,7 +57,7 @@ pub fn nullability(there: There) -> Nullability {
     }
 }
 
-// The validity of so many rows, where one stands.
+// The validity of `len` rows, if there is one.
 fn validity(alloc: Global, there: There, len: usize) -> Result<Option<Array>, ArrayError> {
     match there {
         There::Always | There::All => Ok(None),
@@ -65,12 +65,12 @@ fn validity(alloc: Global, there: There, len: usize) -> Result<Option<Array>, Ar
     }
 }
 
-/// So many nulls.
+/// `len` nulls.
 pub fn nulls(alloc: Global, len: usize) -> Made {
     NullArray::new(alloc, len)
 }
 
-/// Numbers of a byte without a sign, never null.
+/// Unsigned numbers of a byte, none of them null.
 pub fn bytes(alloc: Global, bytes: &[u8]) -> Made {
     numbers(alloc, PType::U8, bytes, There::Always)
 }
@@ -96,7 +96,7 @@ fn buffer(alloc: Global, bytes: &[u8], alignment: Alignment) -> Result<BufferHan
     Ok(BufferHandle::new_host(buffer.aligned(alignment)))
 }
 
-/// So many flags that are never null, by their bits.
+/// `len` booleans, none of them null, by their bits.
 pub fn flags(alloc: Global, bits: u8, len: usize) -> Made {
     let bits = buffer(alloc, &[bits], Alignment::none())?;
     BoolArray::try_new(alloc, bits, 0, len, Nullability::NonNullable, None)
@@ -110,7 +110,7 @@ fn alignment_of(kind: PType) -> Alignment {
     }
 }
 
-// How many numbers of a kind stand in so many bytes.
+// The number of numbers of a kind in this many bytes.
 fn count_of(kind: PType, bytes: usize) -> usize {
     match bytes.checked_div(kind.byte_width()) {
         Some(count) => count,
@@ -158,7 +158,7 @@ pub fn lists(alloc: Global, elements: Made, offsets: Made, there: There) -> Made
     ListArray::try_new(alloc, elements, offsets, nullability(there), validity)
 }
 
-// How many rows an array has, once it is made.
+// The number of an array's rows, if it was made.
 fn len_of(array: &Made) -> usize {
     match array {
         Ok(array) => array.len(),
@@ -166,7 +166,7 @@ fn len_of(array: &Made) -> usize {
     }
 }
 
-/// One array more after others.
+/// Appends an array.
 pub fn and(arrays: AllMade, array: Made) -> AllMade {
     let (mut arrays, array) = both(arrays, array)?;
     match arrays.push(array) {
@@ -192,7 +192,7 @@ pub fn views(alloc: Global, elements: Made, offsets: Made, sizes: Made, there: T
     )
 }
 
-/// So many lists of one size.
+/// `len` fixed-size lists.
 pub fn fixed(alloc: Global, elements: Made, size: u32, len: usize, there: There) -> Made {
     let (elements, validity) = both(elements, validity(alloc, there, len))?;
     FixedSizeListArray::try_new(alloc, elements, size, nullability(there), len, validity)
@@ -222,7 +222,7 @@ fn fields_of(alloc: Global, names: &[&str], arrays: &[Array]) -> Result<StructFi
     StructFields::try_new(names, types_of(alloc, arrays)?)
 }
 
-// The same, once the arrays are made.
+// The same, if the arrays were made.
 fn fields(alloc: Global, names: &[&str], arrays: AllMade) -> Result<StructFields, ArrayError> {
     match arrays {
         Ok(arrays) => typed(fields_of(alloc, names, arrays.as_slice())),
@@ -230,7 +230,7 @@ fn fields(alloc: Global, names: &[&str], arrays: AllMade) -> Result<StructFields
     }
 }
 
-// So many structures of these columns, of which some may be null.
+// `len` structures of these columns, some of which may be null.
 fn structs_of(
     alloc: Global,
     fields: Result<StructFields, ArrayError>,
@@ -243,7 +243,7 @@ fn structs_of(
     StructArray::try_new(alloc, fields, nullability(there), columns, len, validity)
 }
 
-/// So many structures: the fields' names, arrays of their types, and the columns.
+/// `len` structures: the fields' names, arrays of their types, and the columns.
 pub fn structs(
     alloc: Global,
     names: &[&str],
@@ -269,7 +269,7 @@ fn map_type_of(alloc: Global, keys: &Array, values: &Array) -> Result<MapDType, 
     MapDType::new(alloc, key, values.dtype().clone(alloc)?, false)
 }
 
-// The same, once the arrays are made.
+// The same, if the arrays were made.
 fn map_type(alloc: Global, keys: Made, values: Made) -> Result<MapDType, ArrayError> {
     let (keys, values) = both(keys, values)?;
     typed(map_type_of(alloc, &keys, &values))
@@ -295,7 +295,7 @@ fn variants_of(alloc: Global, ids: &[u8], arrays: &[Array]) -> Result<UnionVaria
     UnionVariants::try_new(names, types, TypeIds::copy_from(alloc, ids)?)
 }
 
-// The same, once the arrays are made.
+// The same, if the arrays were made.
 fn variants(alloc: Global, ids: &[u8], arrays: AllMade) -> Result<UnionVariants, ArrayError> {
     match arrays {
         Ok(arrays) => typed(variants_of(alloc, ids, arrays.as_slice())),
@@ -320,14 +320,14 @@ pub fn unions(alloc: Global, ids: &[u8], types: AllMade, tags: Made, members: Al
     unions_of(alloc, variants, tags, members)
 }
 
-// The extension that is stored as arrays of this one's type are.
+// The extension whose storage has the type of this array.
 fn extension_of(alloc: Global, kind: &Array) -> Result<ExtDType, TypeError> {
     let id = Id::new(alloc, "test.ext")?;
     let metadata = Blob::copy_from(alloc, &[1])?;
     ExtDType::new(alloc, id, metadata, kind.dtype().clone(alloc)?)
 }
 
-// The same, once the array is made.
+// The same, if it was made.
 fn stored_as(alloc: Global, kind: Made) -> Result<ExtDType, ArrayError> {
     match kind {
         Ok(kind) => typed(extension_of(alloc, &kind)),
@@ -347,7 +347,7 @@ pub fn extensions(alloc: Global, kind: Made, storage: Made) -> Made {
     extensions_of(alloc, ext, storage)
 }
 
-// Rows of a type of which nothing is known, of this identifier.
+// A foreign node of this identifier and type.
 fn unknown_of(alloc: Global, id: Result<Id, TypeError>, dtype: DType, len: usize) -> Made {
     let id = typed(id)?;
     let metadata = Blob::new(Vec::new(alloc));
@@ -355,13 +355,13 @@ fn unknown_of(alloc: Global, id: Result<Id, TypeError>, dtype: DType, len: usize
     new_foreign_array(alloc, id, dtype, len, metadata, buffers, Arrays::new(alloc))
 }
 
-/// So many variants of which nothing is known, which may be null.
+/// `len` variants of which nothing is known, which may be null.
 pub fn unknown_variants(alloc: Global, len: usize) -> Made {
     let dtype = DType::Variant(Nullability::Nullable);
     unknown_of(alloc, Id::new(alloc, "x.core"), dtype, len)
 }
 
-/// So many numbers of a byte without a sign of which nothing is known, never null.
+/// `len` unsigned numbers of a byte of which nothing is known, none of them null.
 pub fn unknown_bytes(alloc: Global, len: usize) -> Made {
     let dtype = DType::Primitive(PType::U8, Nullability::NonNullable);
     unknown_of(alloc, Id::new(alloc, "x.bytes"), dtype, len)

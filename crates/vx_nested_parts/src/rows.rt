@@ -1,4 +1,4 @@
-//! What tests ask of arrays: the texts of their rows, the cells that these take, and why an array is not made.
+//! What tests ask of arrays: the texts of their rows, the cells that these take, and why an array is refused.
 
 ghost use Rattle.std.specs.Prelude.{◌≡◌, IfOk};
 ghost use Rattle.vx_rows.specs.Plain.{plain_value};
@@ -9,7 +9,7 @@ use vx_arrays::{Array, ArrayError, RowValue};
 use vx_scalars::Scalar;
 use vx_types::PValue;
 
-// The text of a value: that of a text is its own, of lists, structures and maps `[a, b]`, of a union `#5(a)`, and of a variant
+// The text of a value: a text is its own, lists, structures and maps are `[a, b]`, a union is `#5(a)`, and a variant
 // `v(a)`.
 #[cycle(text)]
 fn text_of(alloc: Global, value: &RowValue) -> Result<String, AllocError> {
@@ -53,7 +53,7 @@ fn value_of(alloc: Global, scalar: &Scalar) -> Result<RowValue, AllocError>
     }
 }
 
-// The texts of values, split by commas.
+// The texts of values, with a comma and a space between them.
 #[cycle(text)]
 fn texts_of(alloc: Global, values: &[RowValue]) -> Result<String, AllocError> {
     let mut texts = String::new(alloc);
@@ -79,7 +79,7 @@ fn number_text(alloc: Global, number: &PValue) -> Result<String, AllocError> {
     }
 }
 
-// The value of a row, for so many cells.
+// The value of a row, with a budget of this many cells.
 fn value_at(
     alloc: Global,
     array: &Array,
@@ -130,7 +130,7 @@ pub fn begins_with(alloc: Global, array: &Array, texts: &[&str]) -> bool {
     true
 }
 
-/// Whether the rows of an array that is made first have these texts.
+/// Whether the rows of an array, if it was made, have these texts.
 pub fn has_rows(alloc: Global, array: Made, texts: &[&str]) -> bool {
     match array {
         Ok(array) => array.len() == texts.len() && begins_with(alloc, &array, texts),
@@ -138,12 +138,12 @@ pub fn has_rows(alloc: Global, array: Made, texts: &[&str]) -> bool {
     }
 }
 
-// Why the first row of an array is not given for so many cells, if it is not.
+// The refusal of the first row of an array with a budget of cells, if it is refused.
 fn refusal_at(alloc: Global, array: &Array, budget: u64) -> Option<ArrayError> {
     value_at(alloc, array, 0, budget).err()
 }
 
-/// Why the first row of an array is not given for so many cells, if it is not.
+/// The refusal of the first row of an array with a budget of cells, if it is refused.
 pub fn row_refusal(alloc: Global, array: Made, budget: u64) -> Option<ArrayError> {
     match array {
         Ok(array) => refusal_at(alloc, &array, budget),
@@ -151,13 +151,13 @@ pub fn row_refusal(alloc: Global, array: Made, budget: u64) -> Option<ArrayError
     }
 }
 
-// Whether the first row of an array takes so many cells.
+// Whether the first row of an array takes exactly this many cells.
 fn first_takes(alloc: Global, array: &Array, cells: u64) -> bool {
     refusal_at(alloc, array, cells) == None
         && refusal_at(alloc, array, cells.saturating_sub(1)) == Some(ArrayError::ValueTooLarge)
 }
 
-/// Whether the first row of an array that is made first takes so many cells.
+/// Whether the first row of an array, if it was made, takes exactly this many cells.
 pub fn takes(alloc: Global, array: Made, cells: u64) -> bool {
     match array {
         Ok(array) => first_takes(alloc, &array, cells),
@@ -186,7 +186,7 @@ fn are_slots(alloc: Global, array: &Array, names: &[&str]) -> bool {
     array.nslots() == names.len()
 }
 
-/// Whether the slots of an array that is made first have these names.
+/// Whether the slots of an array, if it was made, have these names.
 pub fn has_slots(alloc: Global, array: Made, names: &[&str]) -> bool {
     match array {
         Ok(array) => are_slots(alloc, &array, names),
