@@ -23,12 +23,12 @@ fn codes(alloc: Global) -> Made {
     numbers(alloc, PType::U8, &[0, 2, 0, 1], There::Bits(0b1011))
 }
 
-// The texts that those codes name.
+// The texts by those codes.
 fn letters(alloc: Global) -> Made {
     dicts(alloc, codes(alloc), values(alloc))
 }
 
-// The texts that codes of a kind name.
+// The texts by codes of a kind.
 fn named(alloc: Global, kind: PType, codes: &[u8], there: There) -> Made {
     dicts(alloc, numbers(alloc, kind, codes, there), values(alloc))
 }
@@ -107,7 +107,7 @@ fn codes_are_of_each_kind_of_integers(rt: HostRuntime) {
 
 const BROKEN: Option<ArrayError> = Some(ArrayError::BadContent);
 
-// Codes that name none of three values.
+// Codes that are past the three values.
 const BAD_CODES: [(PType, &[u8]); 8] = [
     (PType::U8, b"\x03"),
     (PType::U8, b"\xff"),

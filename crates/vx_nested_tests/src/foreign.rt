@@ -1,5 +1,5 @@
-//! Tests of nodes of which nothing is known that would say where rows are: they are refused before a row is asked for, since
-//! nothing bounds how many rows they have.
+//! Tests of foreign nodes that would say where rows are: they are refused before a row is asked for, since nothing
+//! bounds how many rows they have.
 
 use std::alloc::Global;
 use vx_arrays::{ArrayError, VarBinArray};
@@ -62,7 +62,7 @@ fn what_says_where_rows_are_is_known_before_rows_are_judged(rt: HostRuntime) {
     assert!(rt; spelled(alloc).err() == CONTROL);
 }
 
-// Codes that are themselves named by codes of which nothing is known.
+// Codes that are a dictionary themselves, by codes of which nothing is known.
 #[test]
 fn that_is_so_however_deep_they_stand(rt: HostRuntime) {
     let alloc = rt.alloc();

@@ -1,5 +1,5 @@
-//! Tests of arrays whose rows are made of other arrays' rows, each encoding in a module of its own: which arrays are made,
-//! their rows, and the cells that these take.
+//! Tests of nested arrays, each encoding in a module of its own: which arrays are made, their rows, and the cells that
+//! these take.
 #![tactic(auto)]
 
 #[cfg(test)]

@@ -154,13 +154,13 @@ fn repeated(alloc: Global, byte: u8) -> Made {
     bytes(alloc, &[byte; 64])
 }
 
-// 64 lists, each of all those of the level below.
+// 64 lists, each of all the rows of the level below.
 fn above(alloc: Global, level: Made) -> Made {
     let (offsets, sizes) = (repeated(alloc, 0), repeated(alloc, 64));
     views(alloc, level, offsets, sizes, There::Always)
 }
 
-// So many such levels.
+// `count` such levels.
 fn levels(alloc: Global, count: usize) -> Made {
     let mut level = repeated(alloc, 64);
     for _ in 0..count {
@@ -186,7 +186,7 @@ fn list_type(alloc: Global) -> Result<DType, ArrayError> {
     }
 }
 
-// A node of so many views over these children, with this flag.
+// A node of `len` views over these children, with this flag.
 fn node_over(alloc: Global, len: usize, flag: bool, children: AllMade) -> Made {
     let (dtype, children) = both(list_type(alloc), children)?;
     ListViewArray::of_children(dtype, len, flag, children)
@@ -209,7 +209,7 @@ fn are_views_of(alloc: Global, first: &Array, second: &Array) -> (bool, bool) {
     (rows, first.array_eq(second))
 }
 
-// The same, once both are made.
+// The same, if both were made.
 fn are_views(alloc: Global, first: Made, second: Made) -> Option<(bool, bool)> {
     match both(first, second) {
         Ok((first, second)) => {

@@ -1,4 +1,4 @@
-//! Tests of lists whose elements are split by offsets.
+//! Tests of lists by offsets.
 
 use std::alloc::Global;
 use vx_arrays::{ArrayError, ListArray};
@@ -11,7 +11,7 @@ fn elements(alloc: Global) -> Made {
     bytes(alloc, &[1, 2, 3])
 }
 
-// Lists of those, split by offsets of a byte.
+// Lists of those, by offsets of a byte.
 fn parted(alloc: Global, offsets: &[u8], there: There) -> Made {
     lists(alloc, elements(alloc), bytes(alloc, offsets), there)
 }
@@ -67,7 +67,7 @@ const KINDS: [(PType, &[u8]); 8] = [
     ),
 ];
 
-// Lists of three numbers, split by offsets of a kind.
+// Lists of three numbers, by offsets of a kind.
 fn parted_by(alloc: Global, kind: PType, offsets: &[u8], there: There) -> Made {
     let offsets = numbers(alloc, kind, offsets, there);
     lists(alloc, elements(alloc), offsets, There::Always)
@@ -145,7 +145,7 @@ fn list_type(alloc: Global) -> Result<DType, ArrayError> {
     }
 }
 
-// A node of so many lists over three elements and four offsets.
+// A node of `len` lists over three elements and four offsets.
 fn node_of(alloc: Global, len: usize) -> Made {
     let children = two(alloc, elements(alloc), bytes(alloc, &[0, 2, 2, 3]));
     let (dtype, children) = both(list_type(alloc), children)?;

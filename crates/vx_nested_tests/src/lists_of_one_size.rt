@@ -1,11 +1,11 @@
-//! Tests of lists of one size.
+//! Tests of fixed-size lists.
 
 use std::alloc::Global;
 use vx_arrays::ArrayError;
 use vx_nested_parts::parts::{Made, There, bytes, fixed, nulls};
 use vx_nested_parts::rows::{has_rows, has_slots, row_refusal, takes};
 
-// So many lists of so many of these numbers.
+// `len` lists of `size` of these numbers each.
 fn sized(alloc: Global, numbers: &[u8], size: u32, len: usize, there: There) -> Made {
     fixed(alloc, bytes(alloc, numbers), size, len, there)
 }

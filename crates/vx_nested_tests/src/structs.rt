@@ -22,7 +22,7 @@ fn columns(alloc: Global) -> AllMade {
     two(alloc, numbers(alloc), letters(alloc))
 }
 
-// So many structures of a number and a text, by these columns.
+// This many structures of a number and a text, by these columns.
 fn pairs_of(alloc: Global, columns: AllMade, len: usize, there: There) -> Made {
     let types = two(alloc, numbers(alloc), letters(alloc));
     structs(alloc, &["a", "b"], types, columns, len, there)
@@ -33,7 +33,7 @@ fn pairs(alloc: Global, there: There) -> Made {
     pairs_of(alloc, columns(alloc), 3, there)
 }
 
-// So many structures without fields.
+// This many structures without fields.
 fn empty(alloc: Global, len: usize, there: There) -> Made {
     structs(alloc, &[], none(alloc), none(alloc), len, there)
 }
