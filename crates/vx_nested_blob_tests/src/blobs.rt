@@ -37,13 +37,13 @@ fn nested_arrays_are_read_again(rt: HostRuntime) {
     }
 }
 
-// Why an array is not read at the type of another and a length, if it is not.
+// The refusal of reading an array at the type of another and a length, if it is refused.
 fn refused(alloc: Global, which: Nested, kind: Nested, len: usize) -> Option<WireError> {
     let array = made(alloc, which);
     refusal(alloc, array, made(alloc, kind), len, Change::Nothing)
 }
 
-// Arrays, the type that they are read at, and as how many rows, for which they are of no shape.
+// Arrays, the type that they are read at, and the number of rows, which together are refused for their shape.
 const UNFIT: [(Nested, Nested, usize); 30] = [
     (Nested::Lists, Nested::Lists, 2),
     (Nested::Lists, Nested::Lists, 4),
@@ -86,7 +86,8 @@ fn nested_arrays_are_of_their_type_and_length(rt: HostRuntime) {
     }
 }
 
-// Arrays, types that only let more rows be null or give their tags to other members, and as how many rows they are read.
+// Arrays, types that only let more rows be null or give their tags to other members, and the number of rows that are
+// read.
 const FIT: [(Nested, Nested, usize); 7] = [
     (Nested::Threes, Nested::SomeThrees, 2),
     (Nested::Pairs, Nested::SomePairs, 3),

@@ -19,7 +19,7 @@ fn listed(alloc: Global, there: There) -> Made {
     lists(alloc, words, offsets, there)
 }
 
-// Why the lists are not read with other bytes in the place of some, if they are not.
+// Why the lists are not read with other bytes in place of some, if they are not.
 fn unlisted(alloc: Global, there: There, old: &[u8], new: &[u8]) -> Option<WireError> {
     let lists = listed(alloc, there);
     refusal(
@@ -37,7 +37,7 @@ const UNFIT: Option<WireError> = Some(WireError::BadShape);
 
 const NO_MESSAGE: Option<WireError> = Some(WireError::BadMetadata);
 
-// Offsets in the place of those, and why the lists are not read then, if they are not.
+// Offsets in place of those, and why the lists are not read then, if they are not.
 const OFFSETS: [([u8; 16], Option<WireError>); 6] = [
     ([0, 0, 0, 0, 2, 0, 0, 0, 1, 0, 0, 0, 3, 0, 0, 0], BROKEN),
     (
@@ -61,7 +61,7 @@ fn offsets_are_judged(rt: HostRuntime) {
     }
 }
 
-// Metadata in the place of that of the lists, and why these are not read then.
+// Metadata in place of that of the lists, and why these are not read then.
 const METADATA: [([u8; 4], Option<WireError>); 9] = [
     ([8, 3, 16, 2], None),
     ([8, 3, 16, 5], UNFIT),

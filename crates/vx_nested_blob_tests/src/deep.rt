@@ -1,4 +1,4 @@
-//! Trees of many levels, written and recoded, where deep trees are asked for and where not.
+//! Trees of many levels, written and recoded, with deep trees allowed and not.
 
 use crate::wire::{blob_with, recoded_with, unbuilt};
 use std::alloc::Global;
@@ -10,14 +10,14 @@ use vx_registry::ArrayContext;
 use vx_serde::{SerializeOptions, SerializedArray, WireError};
 use vx_types::{Blob, DType, Id, TypeError};
 
-// What each level of a tree is but the lowest, which is a number.
+// The node at each level of a tree but the lowest, which is a number.
 #[derive(Clone, Copy, Debug)]
 enum Level {
     // A list of the level below.
     Lists,
     // A structure of one field.
     Structs,
-    // An extension that is stored so.
+    // An extension whose storage is the level below.
     Extensions,
     // A code of the only value.
     Dictionaries,
@@ -57,12 +57,12 @@ fn above(alloc: Global, level: Level, tree: Array) -> Made {
     }
 }
 
-// The same, once that tree is made.
+// The same, if that tree was made.
 fn higher(alloc: Global, level: Level, tree: Made) -> Made {
     above(alloc, level, tree?)
 }
 
-// A tree of so many levels.
+// A tree of `levels` levels.
 fn tree(alloc: Global, level: Level, levels: usize) -> Made {
     let mut tree = bytes(alloc, &[7]);
     for _ in 1..levels {
@@ -71,7 +71,7 @@ fn tree(alloc: Global, level: Level, levels: usize) -> Made {
     tree
 }
 
-// No pads, and deep trees or none.
+// No pads, and deep trees allowed or not.
 fn options(deep: bool) -> SerializeOptions {
     SerializeOptions {
         offset: 0,
@@ -80,8 +80,8 @@ fn options(deep: bool) -> SerializeOptions {
     }
 }
 
-// Why a tree is not written and recoded, if it is not; whether it comes back as it was and its row takes so many cells, if
-// it is.
+// The refusal of writing and recoding a tree, if it is refused; else whether the same tree is read, and its row takes
+// this many cells.
 fn recoded(alloc: Global, tree: &Array, deep: bool, cells: u64) -> Result<bool, WireError> {
     let mut ctx = ArrayContext::empty(alloc);
     let recoded = recoded_with(alloc, tree, &mut ctx, &options(deep));
@@ -92,7 +92,7 @@ fn recoded(alloc: Global, tree: &Array, deep: bool, cells: u64) -> Result<bool, 
     Ok(same && takes(alloc, tree.clone(alloc), cells))
 }
 
-// The same of a tree that is made.
+// The same for a tree that is made.
 fn comes_back(
     alloc: Global,
     level: Level,
@@ -112,8 +112,7 @@ fn comes_back(
 
 const PASSED: Result<bool, WireError> = Err(WireError::WireLimit);
 
-// What the levels are, how many there are, how many cells the row takes, whether deep trees are asked for, and what comes
-// of it.
+// The levels and their number, the cells of the row, whether deep trees are allowed, and the result.
 const TREES: [(Level, usize, u64, bool, Result<bool, WireError>); 11] = [
     (Level::Lists, 62, 62, false, Ok(true)),
     (Level::Lists, 63, 63, false, PASSED),
@@ -136,13 +135,13 @@ fn trees_are_written_up_to_a_level(rt: HostRuntime) {
     }
 }
 
-// Why a tree that was written deep is not opened, deep or not, if it is not.
+// The refusal of opening a tree that was written deep, deep or not, if it is refused.
 fn unopened(alloc: Global, tree: &Array, deep: bool) -> Result<Option<WireError>, WireError> {
     let blob = blob_with(alloc, tree, &options(true))?;
     Ok(SerializedArray::try_from_buffer_to(alloc, blob, deep).err())
 }
 
-// The same of lists that are made.
+// The same for lists that are made.
 fn unopened_lists(
     alloc: Global,
     levels: usize,
@@ -158,7 +157,7 @@ fn unopened_lists(
     }
 }
 
-// How many levels of lists were written deep, and why they are not opened where no deep tree is asked for.
+// The number of levels of lists that were written deep, and the refusal of opening them without `deep`.
 const OPENED: [(usize, Option<WireError>); 3] = [
     (62, None),
     (63, Some(WireError::TableLimit)),
@@ -180,7 +179,7 @@ fn deep_trees_are_opened_where_they_are_asked_for(rt: HostRuntime) {
     }
 }
 
-// Why lists are no node of a message that a caller builds, if they are none.
+// The refusal of lists as a node of a message that a caller builds, if they are refused.
 fn unbuilt_lists(alloc: Global, levels: usize) -> Result<Option<WireError>, WireError> {
     match tree(alloc, Level::Lists, levels) {
         Ok(tree) => {
@@ -192,7 +191,7 @@ fn unbuilt_lists(alloc: Global, levels: usize) -> Result<Option<WireError>, Wire
     }
 }
 
-// How many levels lists have, and why they are no node, if they are none: no options are asked.
+// The number of levels of lists, and their refusal as a node: this call takes no options.
 const BUILT: [(usize, Option<WireError>); 3] = [
     (62, None),
     (63, Some(WireError::WireLimit)),

@@ -45,7 +45,7 @@ fn codes(alloc: Global) -> Made {
     bytes(alloc, &[0, 2, 0, 1])
 }
 
-// The same of two bytes each.
+// The same codes, of two bytes each.
 fn wide_codes(alloc: Global) -> Made {
     numbers(alloc, PType::I16, &[0, 0, 2, 0, 0, 0, 1, 0], There::Always)
 }
@@ -130,13 +130,13 @@ fn dictionaries_stand_beside_others(rt: HostRuntime) {
     assert!(rt; is_read_as(alloc, stored(alloc, Letters::Some), read));
 }
 
-// Two texts that codes of a kind name.
+// Two texts by codes of a kind.
 fn named(alloc: Global, kind: PType, codes: &[u8], there: There) -> Made {
     let codes = numbers(alloc, kind, codes, there);
     dicts(alloc, codes, values(alloc, There::Always))
 }
 
-// Kinds of integers, the codes 2 and 0 of each, such ones of which the first names no value, and the metadata.
+// Kinds of integers, the codes 2 and 0 of each, two codes of which the first is past the values, and the metadata.
 const KINDS: [(PType, &[u8], &[u8], &[u8]); 8] = [
     (PType::U8, b"\x02\0", b"\x03\0", &[8, 3, 24, 0, 32, 0]),
     (
@@ -195,7 +195,7 @@ fn codes_are_of_each_kind_of_integers(rt: HostRuntime) {
     }
 }
 
-// Why a dictionary of two codes of a kind is not read with others in their place, if it is not.
+// The refusal of a dictionary of two codes of a kind with others in their place, if it is refused.
 fn unnamed(alloc: Global, kind: PType, old: &[u8], new: &[u8], there: There) -> Option<WireError> {
     let array = named(alloc, kind, old, there);
     let again = named(alloc, kind, old, there);
@@ -290,12 +290,12 @@ fn both_flags_are_always_written(rt: HostRuntime) {
     assert!(rt; has_metadata(alloc, empty, &[24, 0, 32, 0]));
 }
 
-// One row over so many nulls.
+// One row over `count` nulls.
 fn over_nulls(alloc: Global, count: usize) -> Made {
     dicts(alloc, bytes(alloc, &[0]), nulls(alloc, count))
 }
 
-// The most values of a dictionary that is written.
+// The greatest number of values of a dictionary that is written.
 const MOST: usize = (1 << 32) - 1;
 
 #[test]
@@ -317,7 +317,7 @@ fn more_values_are_not_written(rt: HostRuntime) {
     assert!(rt; refused == Some(WireError::WireLimit));
 }
 
-// Dictionaries of four rows, and as how many they are of no shape.
+// Dictionaries of four rows, and other numbers of rows, which are refused for their shape.
 const LENGTHS: [(Letters, usize); 5] = [
     (Letters::Some, 3),
     (Letters::Some, 5),

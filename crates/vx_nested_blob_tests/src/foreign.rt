@@ -12,10 +12,10 @@ use vx_nested_parts::rows::begins_with;
 use vx_registry::ArrayContext;
 use vx_serde::{Recoded, WireError};
 
-// The name that stands in the place of an encoding's.
+// The name that replaces an encoding's.
 const NEW: &str = "x.new";
 
-// Why an array is not read once an encoding has that name, if it is not.
+// The refusal of an array once that name replaces an encoding's, if it is refused.
 fn refusal(alloc: Global, array: Made, name: &str) -> Option<WireError> {
     match array {
         Ok(array) => {
@@ -29,8 +29,8 @@ fn refusal(alloc: Global, array: Made, name: &str) -> Option<WireError> {
 
 const CONTROL: Option<WireError> = Some(WireError::ForeignControl);
 
-// Arrays, the encoding that nothing reads, and why they are not read then: a root, fields, elements, members and storage
-// are kept; validities, offsets and tags are not.
+// Arrays, the encoding that nothing reads, and their refusal then: roots, fields, elements, members and storage are
+// kept; validities, offsets and tags are refused.
 const NAMES: [(Nested, &str, Option<WireError>); 11] = [
     (Nested::Pairs, "vortex.struct", None),
     (Nested::Pairs, "vortex.varbin", None),
@@ -62,7 +62,7 @@ fn entries_of_maps_are_not_kept(rt: HostRuntime) {
     assert_eq!(rt; WireError::ForeignControl.number(), 21);
 }
 
-// What is read of an array of this name for an encoding.
+// What is read of an array with that name in place of an encoding's.
 fn read(alloc: Global, array: Made, name: &str) -> Result<Array, WireError> {
     match array {
         Ok(array) => {
@@ -74,7 +74,7 @@ fn read(alloc: Global, array: Made, name: &str) -> Result<Array, WireError> {
     }
 }
 
-// Whether what is read has these rows, and is not written where such nodes are not allowed.
+// Whether what is read has these rows, and is refused on writing where such nodes are not allowed.
 fn is_unknown(alloc: Global, read: Result<Array, WireError>, texts: &[&str]) -> bool {
     match read {
         Ok(array) => {
@@ -146,7 +146,7 @@ fn is_same_by(alloc: Global, array: &Array, name: &str, ids: &[&str]) -> bool {
     same
 }
 
-// The same, once the array is made.
+// The same, if it was made.
 fn comes_by(alloc: Global, array: Made, name: &str, ids: &[&str]) -> bool {
     match array {
         Ok(array) => {

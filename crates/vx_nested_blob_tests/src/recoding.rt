@@ -61,7 +61,7 @@ fn is_recoded(alloc: Global, array: &Array, rows: &[&str], ids: &[&str]) -> bool
     same
 }
 
-// The same of an array, once it is made.
+// The same for an array, if it was made.
 fn are_recoded(alloc: Global, array: Made, rows: &[&str], ids: &[&str]) -> bool {
     match array {
         Ok(array) => {

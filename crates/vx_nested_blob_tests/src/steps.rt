@@ -1,4 +1,4 @@
-//! The steps of one node: what is planned, and the metadata that is written.
+//! The steps of one node: its plan, and the metadata that is written.
 
 use std::alloc::Global;
 use vx_arrays::Array;
@@ -20,7 +20,7 @@ fn has_bytes(alloc: Global, array: &Array, bytes: &[u8]) -> bool {
     }
 }
 
-/// Whether an array that is made first has this metadata.
+/// Whether an array, if it was made, has this metadata.
 pub(crate) fn has_metadata(alloc: Global, array: Made, bytes: &[u8]) -> bool {
     match array {
         Ok(array) => {
@@ -32,7 +32,7 @@ pub(crate) fn has_metadata(alloc: Global, array: Made, bytes: &[u8]) -> bool {
     }
 }
 
-/// Why the metadata of an array that is made first is not written, if it is not.
+/// Why the metadata of an array, if it was made, is not written, if it is not.
 pub(crate) fn unwritten(alloc: Global, array: Made) -> Option<EncodingError> {
     match array {
         Ok(array) => {

@@ -26,7 +26,7 @@ fn over(alloc: Global, typed: Option<Made>) -> Made {
     shredded(alloc, unknown_variants(alloc, 2), typed)
 }
 
-// A number in lists of one element each, so many levels of types in all.
+// A number in lists of one element each, with `levels` levels of types in all.
 fn deep(alloc: Global, levels: usize) -> Made {
     let mut array = bytes(alloc, &[7]);
     for _ in 1..levels {
@@ -35,7 +35,7 @@ fn deep(alloc: Global, levels: usize) -> Made {
     array
 }
 
-// One variant under a typed child of so many levels.
+// One variant under a typed child of `levels` levels.
 fn over_deep(alloc: Global, levels: usize) -> Made {
     shredded(alloc, unknown_variants(alloc, 1), Some(deep(alloc, levels)))
 }
@@ -116,7 +116,7 @@ fn is_kept(alloc: Global, array: &Array) -> bool {
     is_read_again(alloc, array) && unwritten == Some(WireError::NotRegistered)
 }
 
-// The same, once the array is made.
+// The same, if it was made.
 fn comes_again(alloc: Global, array: Made) -> bool {
     match array {
         Ok(array) => {

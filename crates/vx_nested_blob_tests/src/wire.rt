@@ -11,18 +11,18 @@ use vx_serde::{
 use vx_type_wire::ExtSession;
 use vx_types::{DType, Id, Ids, TypeError};
 
-/// What is changed of what was written, before it is read.
+/// A change of what was written, before it is read.
 #[derive(Clone, Copy)]
 pub(crate) enum Change<'a> {
     /// Nothing.
     Nothing,
-    /// Bytes of the blob that stand there first, by as many others.
+    /// The first occurrence of bytes in the blob, replaced by as many others.
     Bytes(&'a [u8], &'a [u8]),
-    /// An identifier, by another one.
+    /// An identifier, replaced by another one.
     Id(&'a str, &'a str),
 }
 
-// The encodings that are shipped, without readers of extensions.
+// A session of the shipped encodings, without readers of extensions.
 fn shipped(alloc: Global) -> Result<VortexSession, WireError> {
     match ArraySession::default(alloc) {
         Ok(arrays) => Ok(VortexSession::new(arrays, ExtSession::new(alloc))),
@@ -51,7 +51,7 @@ fn blob_by(
     Ok(blob?)
 }
 
-// Where bytes begin that stand in others.
+// The place of the first occurrence of bytes in others.
 fn find(bytes: &[u8], part: &[u8]) -> Option<usize> {
     for i in 0..bytes.len() {
         if bytes[i..].starts_with(part) {
@@ -61,7 +61,7 @@ fn find(bytes: &[u8], part: &[u8]) -> Option<usize> {
     None
 }
 
-// Bytes with others from a place on.
+// Puts bytes at a place.
 fn put(bytes: &mut Vec<u8>, place: usize, new: &[u8]) {
     for i in 0..new.len() {
         if let Some(byte) = bytes.get_mut(place.saturating_add(i)) {
@@ -70,7 +70,7 @@ fn put(bytes: &mut Vec<u8>, place: usize, new: &[u8]) {
     }
 }
 
-// Bytes with others in the place of some that stand there first.
+// Bytes with the first occurrence of some replaced by others.
 fn replaced(alloc: Global, bytes: &[u8], old: &[u8], new: &[u8]) -> Result<Vec<u8>, AllocError> {
     let mut changed = Vec::from_slice(alloc, bytes)?;
     if let Some(place) = find(bytes, old) {
@@ -79,7 +79,7 @@ fn replaced(alloc: Global, bytes: &[u8], old: &[u8], new: &[u8]) -> Result<Vec<u
     Ok(changed)
 }
 
-// A blob with other bytes in the place of some that stand there first.
+// A blob with the first occurrence of some bytes replaced by others.
 fn patched(
     alloc: Global,
     blob: ByteBuffer,
@@ -103,7 +103,7 @@ fn changed(
     }
 }
 
-// A text, or another one in the place of this one.
+// A text, or another one in place of this one.
 fn name_of<'a>(text: &'a str, change: Change<'a>) -> &'a str {
     match change {
         Change::Id(old, new) => { if text == old { new } else { text } }
@@ -111,7 +111,7 @@ fn name_of<'a>(text: &'a str, change: Change<'a>) -> &'a str {
     }
 }
 
-// Identifiers more, once they are changed.
+// Appends identifiers, once they are changed.
 fn push_renamed(
     alloc: Global,
     ids: &[Id],
@@ -182,7 +182,7 @@ fn decoded(
     array
 }
 
-// An array written, and read at a type and length once it is changed, under these encodings.
+// An array written, and read at a type and length once it is changed, with this session.
 fn read_under(
     alloc: Global,
     array: &Array,
@@ -198,7 +198,7 @@ fn read_under(
     read
 }
 
-// The same under the encodings that are shipped.
+// The same with the shipped encodings.
 fn read(
     alloc: Global,
     array: &Array,
@@ -220,7 +220,7 @@ pub(crate) fn kept(alloc: Global, array: &Array, change: Change<'_>) -> Result<A
     read
 }
 
-/// Why an array is not written under the encodings that are shipped, if it is not.
+/// Why an array is not written under the shipped encodings, if it is not.
 pub(crate) fn unwritten_array(alloc: Global, array: &Array) -> Option<WireError> {
     blob_of(alloc, array).err()
 }
@@ -239,7 +239,7 @@ fn recoded_by(
     recode(alloc, blob, dtype, len, ids, ctx, session, options)
 }
 
-// An array written, and what was written recoded at its type and length once it is changed, under these encodings and
+// An array written, and what was written recoded at its type and length once it is changed, with this session and
 // options.
 fn recoded_under(
     alloc: Global,
@@ -255,8 +255,8 @@ fn recoded_under(
     recoded
 }
 
-/// An array written, and what was written recoded under the encodings that are shipped and by these options; a context
-/// takes the identifiers.
+/// An array written, and what was written recoded under the shipped encodings and by these options; a context takes the
+/// identifiers.
 pub(crate) fn recoded_with(
     alloc: Global,
     array: &Array,
@@ -292,7 +292,7 @@ pub(crate) fn recoded_kept(
     recoded
 }
 
-/// The blob of an array under the encodings that are shipped and by these options.
+/// The blob of an array under the shipped encodings and by these options.
 pub(crate) fn blob_with(
     alloc: Global,
     array: &Array,
@@ -338,7 +338,7 @@ fn comes_as(alloc: Global, array: &Array, other: &Array) -> bool {
     }
 }
 
-/// Whether an array is read again as another one, once both are made.
+/// Whether an array is read again as another one, if both were made.
 pub(crate) fn is_read_as(alloc: Global, array: Made, other: Made) -> bool {
     match both(array, other) {
         Ok((array, other)) => {
