@@ -34,7 +34,7 @@ fn is_hidden(alloc: Global, array: &Array, index: usize) -> bool {
     }
 }
 
-// Whether a row's value is opaque, and whether it is there as is said.
+// Whether a row's value is opaque, and whether it is there as `there` says.
 fn is_opaque(alloc: Global, array: &Array, index: usize, there: Option<bool>) -> bool {
     if index >= array.len() {
         return false;
@@ -54,12 +54,12 @@ fn begins_known(alloc: Global, array: Made, text: &str) -> bool {
     }
 }
 
-// Whether the two rows of an array are opaque, and whether they are there as is said.
+// Whether the two rows of an array are opaque, and there as `there` says.
 fn both_opaque(alloc: Global, array: &Array, there: Option<bool>) -> bool {
     array.len() == 2 && is_opaque(alloc, array, 0, there) && is_opaque(alloc, array, 1, there)
 }
 
-// The same of an array that is made first.
+// The same for an array, if it was made.
 fn are_opaque(alloc: Global, array: Made, there: Option<bool>) -> bool {
     match array {
         Ok(array) => {
@@ -219,8 +219,8 @@ fn long_text(alloc: Global) -> Made {
     shredded(alloc, unknown_variants(alloc, 1), Some(text))
 }
 
-// A row counts the greatest of its own cells, the core's and the typed row's: wrapped elements count, and so does what is
-// hidden.
+// A row counts the greatest of its own cells, the core's and the typed row's: wrapped elements count, and so does what
+// is hidden.
 #[test]
 fn a_row_takes_the_greatest_of_three(rt: HostRuntime) {
     let alloc = rt.alloc();

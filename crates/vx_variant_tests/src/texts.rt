@@ -1,5 +1,5 @@
-//! The texts of scalars: `1` for a number of 32 bits, `7w` for one of 64, `v(a)` for a variant, `{a: 1, b: 2}` for a structure,
-//! `[a, b]` for a list, and `null`.
+//! The texts of scalars: `1` for a number of 32 bits, `7w` for one of 64, `v(a)` for a variant, `{a: 1, b: 2}` for a
+//! structure, `[a, b]` for a list, and `null`.
 
 use crate::scalars::Made;
 use std::alloc::{AllocError, Global};
@@ -53,7 +53,7 @@ fn tuple_text(
     }
 }
 
-// The texts of fields, each after its name, split by commas.
+// The texts of fields, each after its name, with a comma and a space between them.
 #[cycle(text)]
 #[tactic(auto, using(vx_scalars::proofs::LawsOfLists::decreasing))]
 fn field_texts(
@@ -73,7 +73,7 @@ fn field_texts(
     Ok(texts)
 }
 
-// The texts of elements, split by commas.
+// The texts of elements, with a comma and a space between them.
 #[cycle(text)]
 #[tactic(auto, using(vx_scalars::proofs::LawsOfLists::decreasing))]
 fn element_texts(
@@ -98,7 +98,7 @@ fn has_text(alloc: Global, scalar: &Scalar, text: &str) -> bool {
     }
 }
 
-/// Whether a scalar that is made first has this text.
+/// Whether a scalar, if it was made, has this text.
 pub(crate) fn is_text(alloc: Global, scalar: Made, text: &str) -> bool {
     match scalar {
         Ok(scalar) => {
