@@ -1,4 +1,4 @@
-//! Which views are right, and which rows are made of them.
+//! Which views are valid, and which rows are made of them.
 
 use crate::parts::{Rows, made, made_of_views};
 use std::alloc::Global;
@@ -8,7 +8,7 @@ const BROKEN: Option<ArrayError> = Some(ArrayError::BadContent);
 
 const UNFIT: Option<ArrayError> = Some(ArrayError::BadShape);
 
-// Why one row by a view into two buffers is not made, if it is not.
+// The refusal of one row by a view into two buffers, if it is refused.
 fn refusal(
     alloc: Global,
     rows: Rows,
@@ -24,7 +24,7 @@ fn letters() -> &'static [u8] {
     b"..abcdefghijklm"
 }
 
-// Views, each with whether it is right over a buffer of those letters and one of a byte.
+// Views, each with its refusal over a buffer of those letters and one of a byte.
 const VIEWS: [(&[u8], Option<ArrayError>); 11] = [
     (b"\x0c\0\0\0abcdefghijkl", None),
     (b"\0\0\0\0abcdefghijkl", None),
@@ -59,7 +59,7 @@ fn accented() -> &'static [u8] {
 
 const ONE: &[u8] = b"\x01\0\0\0\xc3\xa4\0\0\0\0\0\0\0\0\0\0";
 
-// Rows of one view over those bytes, and why they are not made, if they are not.
+// Rows of one view over those bytes, and their refusal.
 const TEXTS: [(Rows, &[u8], Option<u8>, Option<ArrayError>); 6] = [
     (
         Rows::Texts,
@@ -82,7 +82,7 @@ fn texts_end_where_a_character_does(rt: HostRuntime) {
     }
 }
 
-// Why so many rows by empty views in so many bytes are not made, if they are not.
+// The refusal of rows by empty views in this many bytes, if they are refused.
 fn misfit(
     alloc: Global,
     rows: Rows,
@@ -95,7 +95,7 @@ fn misfit(
     Ok(made_of_views(alloc, rows, len, zeros.as_slice(), exponent, bits).err())
 }
 
-// Rows, with how many there are, in how many bytes of which alignment, and why they are not made, if they are not.
+// Rows, their number, the bytes and the alignment of their views, and their refusal.
 const FITS: [(Rows, usize, usize, u8, Option<u8>, Option<ArrayError>); 10] = [
     (Rows::Bytes, 2, 32, 4, None, None),
     (Rows::Texts, 0, 0, 5, None, None),

@@ -37,13 +37,13 @@ fn head_of(
     }
 }
 
-// Why a node is not planned, if it is not.
+// The refusal of a node's plan, if it is refused.
 fn plan_refusal(alloc: Global, head: &ArrayHead) -> Option<EncodingError> {
     let readers = ExtSession::new(alloc);
     plan(alloc, Encoding::VarBinView, head, &readers).err()
 }
 
-// Why one row of this metadata and so many children is not planned, if it is not.
+// The refusal of the plan of one row of this metadata and number of children, if it is refused.
 fn refusal(
     alloc: Global,
     rows: Rows,

@@ -26,7 +26,7 @@ pub(crate) fn dtype_of(rows: Rows) -> DType {
     }
 }
 
-// Rows by views, with the bits of a validity of so many rows, where there are some.
+// Rows by views, with the bits of a validity of this many rows, where there are some.
 fn made_by(
     alloc: Global,
     rows: Rows,
@@ -45,7 +45,7 @@ fn made_by(
     }
 }
 
-// Buffers of these bytes, aligned to nothing.
+// Buffers of these bytes, with no alignment.
 fn data_of(alloc: Global, buffers: &[&[u8]]) -> Result<Vec<BufferHandle>, ArrayError> {
     let mut data = Vec::new(alloc);
     for bytes in buffers {
@@ -54,7 +54,7 @@ fn data_of(alloc: Global, buffers: &[&[u8]]) -> Result<Vec<BufferHandle>, ArrayE
     Ok(data)
 }
 
-/// Rows by these views, aligned to two to the exponent, without data, with a validity of one row where there are bits of it.
+/// Rows by these views, aligned to 2^`exponent`, without data, with a validity of one row where there are bits for it.
 pub(crate) fn made_of_views(
     alloc: Global,
     rows: Rows,

@@ -44,7 +44,7 @@ fn worked(alloc: Global, null: u8, last: u8) -> Result<Array, ArrayError> {
     )
 }
 
-// The value of a row, for so many cells.
+// The value of a row, with a budget of this many cells.
 fn value_at(
     alloc: Global,
     array: &Array,
@@ -82,7 +82,7 @@ fn is_row(alloc: Global, array: &Array, index: usize, row: Option<&[u8]>) -> boo
     }
 }
 
-// The same of a copy of the array.
+// The same for a copy of the array.
 fn is_row_copied(
     alloc: Global,
     array: &Array,
@@ -93,7 +93,7 @@ fn is_row_copied(
     Ok(is_row(alloc, &copy, index, row))
 }
 
-// The same of a copy of the worked texts.
+// The same for a copy of the worked texts.
 fn is_worked(alloc: Global, index: usize, row: Option<&[u8]>) -> Result<bool, ArrayError> {
     let array = worked(alloc, b'a', b'a')?;
     is_row_copied(alloc, &array, index, row)
@@ -114,7 +114,7 @@ fn rows_are_told_by_their_views(rt: HostRuntime) {
     assert!(rt; is_worked(rt.alloc(), 4, Some(long())) == Ok(true));
 }
 
-// Why the worked texts, or the last of them for so many cells, are refused, if they are.
+// Why the worked texts, or the last of them for this many cells, are refused, if they are.
 fn worked_refusal(alloc: Global, null: u8, last: u8, budget: u64) -> Option<ArrayError> {
     match worked(alloc, null, last) {
         Ok(array) => value_at(alloc, &array, 4, budget).err(),
@@ -131,7 +131,7 @@ fn a_wrong_prefix_is_refused_where_its_row_is_there(rt: HostRuntime) {
     assert!(rt; worked_refusal(alloc, b'a', b'a', 36) == Some(ArrayError::ValueTooLarge));
 }
 
-// One row of so many bytes of 7.
+// One row of this many bytes of 7.
 fn one_row(alloc: Global, len: u16) -> Result<Array, ArrayError> {
     let data = vec![in alloc; 7; len as usize]?;
     let low = (len % 256) as u8;
@@ -140,7 +140,7 @@ fn one_row(alloc: Global, len: u16) -> Result<Array, ArrayError> {
     made(alloc, Rows::Bytes, 1, &[data.as_slice()], &view, None)
 }
 
-// Why it is not given for so many cells, if it is not.
+// Why it is not given for this many cells, if it is not.
 fn row_refusal(alloc: Global, len: u16, budget: u64) -> Result<Option<ArrayError>, ArrayError> {
     let array = one_row(alloc, len)?;
     Ok(value_at(alloc, &array, 0, budget).err())
