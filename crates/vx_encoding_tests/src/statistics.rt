@@ -6,14 +6,14 @@ use vx_arrays::{Array, ArrayError};
 use vx_scalars::{Precision, ScalarValue, Stat, StatsSet};
 use vx_types::{PType, PValue, TypeError};
 
-// A set in which a number is told of one statistic, exactly.
+// A set of one exact statistic, which is a number.
 fn set_of(alloc: Global, stat: Stat, number: PValue) -> Result<StatsSet, TypeError> {
     let mut set = StatsSet::new(alloc);
     set.set(stat, Precision::Exact(ScalarValue::Primitive(number)))?;
     Ok(set)
 }
 
-// Gives an array that set.
+// Gives an array the set of one exact statistic.
 fn tell(alloc: Global, array: &mut Array, stat: Stat, number: PValue) -> Result<(), TypeError> {
     let set = set_of(alloc, stat, number)?;
     array.set_all(set)

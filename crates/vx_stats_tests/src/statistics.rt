@@ -33,14 +33,14 @@ fn precision_of(told: Told) -> Precision<ScalarValue> {
     }
 }
 
-// A set that tells this of one statistic.
+// A set of one statistic.
 fn set_of(alloc: Global, stat: Stat, told: Told) -> Result<StatsSet, TypeError> {
     let mut set = StatsSet::new(alloc);
     set.set(stat, precision_of(told))?;
     Ok(set)
 }
 
-// Tells an array this of one statistic alone.
+// Gives an array a set of one statistic.
 fn tell(alloc: Global, array: &mut Array, stat: Stat, told: Told) -> Result<(), TypeError> {
     let set = set_of(alloc, stat, told)?;
     array.set_all(set)

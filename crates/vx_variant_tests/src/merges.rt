@@ -77,7 +77,7 @@ fn refused(alloc: Global, typed: &Scalar, fallback: Option<&Scalar>) -> Option<A
     merged(alloc, typed, fallback, Nullability::NonNullable).err()
 }
 
-// The same of one that is made first, without a fallback.
+// The same for one, if it was made, without a fallback.
 fn refusal_alone(alloc: Global, typed: Made) -> Option<ArrayError> {
     match typed {
         Ok(typed) => {

@@ -33,12 +33,12 @@ pub(crate) fn flag(flag: bool) -> Made {
     Scalar::try_new(DType::Bool(NEVER), Some(ScalarValue::Bool(flag)))
 }
 
-/// A null that stands in the place of a text.
+/// The null of a text type.
 pub(crate) fn no_text() -> Made {
     Scalar::try_new(DType::Utf8(MAYBE), None)
 }
 
-/// A null that stands in the place of a variant.
+/// The null of a variant type.
 pub(crate) fn no_variant() -> Made {
     Scalar::try_new(DType::Variant(MAYBE), None)
 }
@@ -176,7 +176,7 @@ pub(crate) fn structure(fields: Fields) -> Made {
     }
 }
 
-/// A null in the place of a structure of these fields.
+/// The null of a type of structures with these fields.
 pub(crate) fn no_structure(fields: Fields) -> Made {
     match fields {
         Ok(parts) => structure_of(parts, false),
@@ -214,7 +214,7 @@ pub(crate) fn list(alloc: Global, fields: Fields) -> Made {
     Scalar::try_new(DType::List(part, MAYBE), Some(ScalarValue::Tuple(values)))
 }
 
-/// The same, of a type of lists of so many.
+/// The same, of a type of fixed-size lists of `size` elements.
 pub(crate) fn fixed_list(alloc: Global, fields: Fields, size: u32) -> Made {
     let (part, values) = elements(alloc, fields?)?;
     let dtype = DType::FixedSizeList(part, size, MAYBE);
