@@ -34,6 +34,9 @@ use vx_types::Blob;
 /// `BadMetadata` where its metadata is none of the encoding's, else `BadShape` where its type is of another kind or its
 /// number of children does not fit. A validity is planned under types that are not nullable as well: so its own faults
 /// are found first, and `build` refuses it.
+///
+/// `readers` are the session's readers of extensions. Only variants ask them, whose metadata has a type; all encodings
+/// take them, so that a session can call each in the same way.
 pub fn plan(
     alloc: Global,
     encoding: Encoding,
@@ -56,6 +59,8 @@ pub fn plan(
 /// rows are holds a foreign node, or the entries of maps are one, else `BadContent` where their content is broken.
 /// Content is judged after control, so that no walk over rows rests on a foreign node, whose number of rows no bytes
 /// bound.
+///
+/// The metadata of variants is not read again: their children have the type, and they are held against the plan.
 pub fn build(
     alloc: Global,
     encoding: Encoding,

@@ -48,9 +48,8 @@ fn are_serializable(expressions: &[Expression]) -> bool
     true
 }
 
-/// The plain value of an expression's message. Options that cannot be written stand there as absent
-/// ones do, so callers test `is_serializable` first. The walk looks at each call, so it also shows that
-/// the expression is one.
+/// The plain value of an expression's message. Options that cannot be written stand there as empty metadata, so callers
+/// test `is_serializable` first. The walk looks at each call, so it also shows that the expression is one.
 #[cycle(values)]
 pub fn slots_of(alloc: Global, expression: &Expression) -> Result<Vec<Entries>, ProtoError>
     ensures same { IfOk result (λ v. value_view v.items ≡ expr_message (expr expression.now)) }

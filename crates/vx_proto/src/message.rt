@@ -56,7 +56,8 @@ pub trait Message: Drop {
     /// definition of its own.
     ghost fits: { Self → Type 0 } = { λ _. Unit {0} };
 
-    /// The schema, as a constant of the code.
+    /// The schema, as a constant of the code. It stands twice, here and as `schema`, since definitions cannot name a
+    /// constant that holds references.
     fn lists() -> Lists
         ensures { schema_view result ≡ schema };
 

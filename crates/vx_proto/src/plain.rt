@@ -25,7 +25,8 @@ pub trait MessageKind {
     /// The index of the message among them.
     ghost place: { ℕ };
 
-    /// The schema, as a constant of the code.
+    /// The schema, as a constant of the code. It stands twice, here and as `schema`, since definitions cannot name a
+    /// constant that holds references.
     fn lists() -> Lists
         ensures { schema_view result ≡ schema };
 

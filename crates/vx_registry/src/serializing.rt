@@ -20,7 +20,7 @@ use std::alloc::Global;
 use vx_arrays::Array;
 use vx_types::{Id, Ids};
 
-/// How an array's root is written.
+/// How an array's root is written. An unchanged root is a case of its own, so that none of its parts is copied.
 #[derive(Drop)]
 pub enum WrittenRoot {
     /// Unchanged: by its encoding, or as the foreign node that it is.

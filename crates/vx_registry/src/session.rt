@@ -202,7 +202,8 @@ impl ArraySession {
         self.tables.writer(id)
     }
 
-    /// Whether primitives are written under two identifiers. The only refusal is `OutOfMemory`.
+    /// Whether primitives are written under two identifiers. The call makes their identifier to look it up, so it
+    /// allocates. The only refusal is `OutOfMemory`.
     pub fn writes_two(&self, alloc: Global) -> Result<bool, RegistryError>
         ensures two { IfOk result (λ two. (x : ExtMeaning) → writes_two (arrays_meaning means self.now x) ≡ two) }
         ensures paired { OnOk result ((x : ExtMeaning) → IsPaired (arrays_meaning means self.now x)) }

@@ -38,7 +38,8 @@ pub struct ArrayNodeFlatBuffer<'a> {
 }
 
 impl<'a> ArrayNodeFlatBuffer<'a> {
-    /// The array, where each of its nodes can be written. Nothing is taken into the context yet.
+    /// The array, where each of its nodes can be written. Nothing is taken into the context yet: these refusals come
+    /// before the context or a builder has changed.
     ///
     /// # Errors
     /// `WireLimit` where the array as it is written has over 62 levels or a node's metadata does not fit its message;

@@ -22,7 +22,8 @@ use vx_serialized::WireError;
 
 /// Writing an array as a blob.
 pub trait ArrayExt {
-    /// Writes the array. The buffers, one after the other, are its blob.
+    /// Writes the array. The buffers, one after the other, are its blob. The first of them is empty and only has the
+    /// alignment that the blob needs.
     fn serialize(
         &self,
         alloc: Global,

@@ -130,7 +130,8 @@ impl SerializedArray {
         SerializedArray::from_flatbuffer_with_buffers(alloc, tree, BufferHandles::new(alloc))
     }
 
-    /// The array of a message, with these buffers. Nodes name them by their index here, and not by a descriptor.
+    /// The array of a message, with these buffers. Nodes name them by their index here, and not by a descriptor. The
+    /// message and the buffers are moved in, so no memory is taken.
     ///
     /// # Errors
     /// `BadTable` where the message shows no array value with a root, `TableLimit` where it passes a limit on reading.
@@ -323,7 +324,7 @@ impl SerializedArray {
         self.root().nchildren()
     }
 
-    /// The root's child at this index, borrowed.
+    /// The root's child at this index, borrowed. The index is below `nchildren`.
     pub fn child(&self, i: usize) -> SerializedNode<'_>
         requires { i < count (below self.now.root) }
         ensures { IsChildOf self.now i result }
@@ -338,7 +339,7 @@ impl SerializedArray {
         self.root().nbuffers()
     }
 
-    /// The number of the root's buffer at this index, in the list of all buffers.
+    /// The number of the root's buffer at this index, in the list of all buffers. The index is below `nbuffers`.
     pub fn buffer_index(&self, i: usize) -> u16
         requires { i < length (label self.now.root).buffers }
         ensures { slice_get (label self.now.root).buffers i ≡ Some result }

@@ -7,7 +7,9 @@ ghost use Rattle.vx_wire_tree.specs.Limits.{HasMessage};
 use crate::encodings;
 use vx_arrays::{Array, Body};
 
-/// Whether the root's metadata fits its message. A node whose metadata does not is not written.
+/// Whether the root's metadata fits its message: a dictionary's number of values has 32 bits there, and the type of a
+/// variant's shredded child at most 49 levels. A writer asks this of each node before it takes anything of it, so that
+/// no metadata is refused later.
 #[tactic(auto, using(crate::proofs::Fit::fit))]
 pub fn has_message(array: &Array) -> bool
     ensures fits { IsTrue result → HasMessage (label array.now) (below array.now) }

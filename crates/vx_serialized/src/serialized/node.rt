@@ -21,7 +21,7 @@ use vx_flat::View;
 use vx_types::Names;
 
 /// A node of a serialized array, with the nodes below it: a place in the message, borrowed for as long as the array is.
-/// Reading it takes no memory. Contracts see its tree.
+/// Its accessors read the message in place; only the calls that return lists take memory. Contracts see its tree.
 #[derive(Drop)]
 pub struct SerializedNode<'a> {
     view: View<'a>,
@@ -89,7 +89,7 @@ impl<'a> SerializedNode<'a> {
         }
     }
 
-    /// The child at this index.
+    /// The child at this index, which is below `nchildren`.
     pub fn child(&self, i: usize) -> SerializedNode<'a>
         requires { i < count (below self.now.root) }
         ensures { IsChildOf self.now i result }
@@ -119,7 +119,7 @@ impl<'a> SerializedNode<'a> {
         self.indices().len() / 2
     }
 
-    /// The number of the node's buffer at this index, in the list of all buffers.
+    /// The number of the node's buffer at this index, in the list of all buffers. The index is below `nbuffers`.
     pub fn buffer_index(&self, i: usize) -> u16
         requires { i < length (label self.now.root).buffers }
         ensures { slice_get (label self.now.root).buffers i ≡ Some result }
