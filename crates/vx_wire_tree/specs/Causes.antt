@@ -53,7 +53,7 @@ pub record IsUnknownNode (s : SessionMeaning) (w : Wire) : Type 0 where
 abbrev pub IsUnregistered : SessionMeaning → Claim
 IsUnregistered s w d n = IsUnknownNode s w
 
--- A node's metadata is none of its encoding's.
+-- A node's metadata is none that its encoding reads.
 pub record HasBadMetadata (c : Codec) (s : SessionMeaning) (w : Wire) (d : Typ) (n : ℕ) : Type 0 where
   pub encoding : Encoding
   pub by : IsOf s w encoding
