@@ -12,7 +12,8 @@ pub enum EncodingError {
     /// An allocation failed.
     #[error("out of memory")]
     OutOfMemory,
-    /// The metadata is none that the encoding reads: its bytes show no message, or a type in it is not known.
+    /// The metadata is none that the encoding reads: its bytes show no message, or one that is not admitted, as a bit
+    /// offset of 8, floats as offsets, or a type that the session does not know.
     #[error("the metadata is none of the encoding's")]
     BadMetadata,
     /// The node's type, its numbers of buffers and children, or a buffer's length or alignment do not fit the encoding.
