@@ -7,7 +7,7 @@ pub record Buffer : Type 0 where
   pub bytes : List ℕ
   pub exponent : ℕ
 
--- a buffer is stored as the pair of the two
+-- A buffer is stored as the pair of the two.
 abbrev pub coded_buffer : Coded Buffer
 coded_buffer = code_by (List ℕ × ℕ) (coded× (coded_list coded_ℕ) coded_ℕ) (λ b. (b.bytes, b.exponent)) (λ p. record { bytes = p.0; exponent = p.1 }) (λ _. refl)
 

@@ -62,7 +62,7 @@ part_form : (R : ℕ → List ℕ → Value → Type 0) (F : ℕ → Value → T
 part_form R F (Scalar k) p e body h s w b = scalar_form k p e body s w b
 part_form R F (Message m) p e body h s w b = let t : SpellsPart body (len s.0) = subst (SpellsPart body) s.2 w in (s.1, s.4, h m s.0 s.1 s.3 (back t.0 s.0 (subst AreBytes t.2 b)))
 
--- entries of these slots, each of its kind's form
+-- Entries of these slots, each of its kind's form.
 abbrev pub AllForm : (ℕ → Value → Type 0) → List Slot → List Entry → Type 0
 AllForm F list [] = Unit {0}
 AllForm F list (x ∷ xs) = ((k : Kind) × (kind_of list x.0 ≡ Some k) × FormContent F k x.1) × AllForm F list xs

@@ -69,12 +69,12 @@ read_uncaused schema place bytes v e r c = reads_excludes schema 100 place bytes
 pub reads_one : (schema : Schema) (place : ℕ) (bytes : List ℕ) (v w : Value) → Reads schema place bytes v → Reads schema place bytes w → v ≡ w
 reads_one schema place bytes v w a b = same_ok (decoded schema 100 place bytes) v w (reads_given schema place bytes v a) (reads_given schema place bytes w b)
 
--- what is read has the form of its schema
+-- What is read has the form of its schema.
 pub read_formed : (schema : Schema) (place : ℕ) (bytes : List ℕ) (v : Value) → IsTrue (is_lawful schema) → AreBytes bytes → Reads schema place bytes v → HasForm schema place v
 unfolding Reads HasForm
 read_formed schema place bytes v l b r = (100, reads_form schema 100 place bytes v (lawful_by schema l) b r)
 
--- what is written of a value of the schema that nests within the limit shows the value
+-- What is written of a value of the schema that nests within the limit shows the value.
 pub written_shown : (schema : Schema) (place : ℕ) (v : Value) → IsTrue (is_lawful schema) → HasForm schema place v → nested v ≤ 100 → length (written schema place v) < 2 ^ 64 → Reads schema place (written schema place v) v
 unfolding Reads HasForm
 written_shown schema place v l f le lt = written_reads schema 100 place v (lawful_by schema l) (form_within schema f.0 100 place v f.1 le) lt
@@ -97,12 +97,12 @@ nothing_shown schema place = record { fields = []; entries = []; spelled = refl;
 pub default_formed : (schema : Schema) (place : ℕ) → IsTrue (is_lawful schema) → HasForm schema place (default_value schema place)
 default_formed schema place l = read_formed schema place [] (default_value schema place) l tt (nothing_shown schema place)
 
--- at most 100 messages nest in what is read
+-- At most 100 messages nest in what is read.
 pub read_nests : (schema : Schema) (place : ℕ) (bytes : List ℕ) (v : Value) → IsTrue (is_lawful schema) → AreBytes bytes → Reads schema place bytes v → nested v ≤ 100
 unfolding Reads
 read_nests schema place bytes v l b r = form_nests schema 100 place v (reads_form schema 100 place bytes v (lawful_by schema l) b r)
 
--- no bytes are read as the default
+-- No bytes are read as the default.
 pub default_given : (schema : Schema) (place : ℕ) (r : Result (Vec (Vec (ℕ × Element))) ProtoError) → Gives (λ v. value_view v.items) r (decoded schema 100 place []) → IfOk r (λ v. value_view v.items ≡ default_value schema place)
 default_given schema place (Ok v) h = same_ok (decoded schema 100 place []) (value_view v.items) (default_value schema place) h (reads_given schema place [] (default_value schema place) (nothing_shown schema place))
 default_given schema place (Err e) h = tt

@@ -8,7 +8,7 @@ use Rattle.std.proofs.lemmas.Option.{cond_some}
 use Rattle.vx_registry.proofs.LawsContexts.{index_of-absent, index_of-end}
 use Rattle.vx_wire_tree.specs.Context.{Context, is_among, index_of, with_id, with_ids, is_allowed, interned}
 
--- places
+-- Places.
 
 past : (n m : ℕ) → m ≤ n → nat_lt n m ≡ false
 past n m h = grind arith

@@ -7,7 +7,7 @@ use Rattle.vx_trees.specs.Rose.{label}
 use Rattle.vx_array_tree.specs.Table.{buffers_of}
 use Rattle.vx_registry.proofs.serialization.own_buffers.Goals as goal
 
--- one more buffer
+-- One more buffer.
 next : (xs : List Buffer) (i : ℕ) (b : Buffer) → slice_get xs i ≡ Some b → take (i + 1) xs ≡ take i xs ++ b ∷ []
 next xs i b e = take_more xs i b (slice_get_within xs i b e) ∙ ap (λ x. take i xs ++ x ∷ []) (get_or_from_slice_get xs i b b e)
 

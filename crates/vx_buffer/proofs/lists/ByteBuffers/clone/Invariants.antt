@@ -1,6 +1,6 @@
 use Rattle.std.proofs.Common.{◌≡◌, take}
 use Rattle.vx_buffer.proofs.lists.ByteBuffers.clone.Given as goal
 
--- the copies so far are the first buffers
+-- The copies so far are the first buffers.
 abbrev pub invariant-loop-buffer : goal.invariant-loop-buffer
 invariant-loop-buffer l = l.items.items ≡ take l.buffer-index l.buffer-items

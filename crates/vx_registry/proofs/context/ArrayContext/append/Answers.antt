@@ -10,7 +10,7 @@ returns-in-None-clause-refused c =
     let count = c.len.ensures.len ∙ ap (λ z. length z.ids) c.self.view_is in
     full c.args.self.now c.args.id.now c.requires.allowed c.requires.new (subst (λ (n : ℕ). 65536 ≤ n) count c.in-None.ensures.none)
 
--- the new list is the old one with the identifier
+-- The new list is the old one with the identifier.
 grown_ids : (c : In_ok-insert) → c.insert.new.self.keys ≡ with_id c.args.id.now c.args.self.now.ids
 grown_ids c =
     c.in_ok-insert.ensures.keys ∙ ap (λ id. with_id id c.self.inside.ids.keys) (c.in_ok-id.ensures.ok ∙ c.as_str.ensures.same) ∙ ap (λ z. with_id c.args.id.now z.ids) c.self.view_is
