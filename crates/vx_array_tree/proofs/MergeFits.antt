@@ -69,7 +69,7 @@ no_structure (node (K.structure ns x) ts) (node tuple vs) r g e =
 no_structure _ _ r g e = absurd (none-some _ e)
 
 raw_good : (d : Typ) (v : Value) (r : Raw) → IsGood d v → raw_structure d v ≡ Some r → IsGoodRaw r
-raw_good d (node (variant e0) (more v vs)) r g e = no_structure e0 v r (record { fits = g.fits.1.0; plain = or_left (has_opaque v) (have_opaque vs) g.plain }) e
+raw_good (node (K.variant m) ts) (node (variant e0) (more v vs)) r g e = no_structure e0 v r (record { fits = g.fits.1.0; plain = or_left (has_opaque v) (have_opaque vs) g.plain }) e
 raw_good d v r g e = no_structure d v r g e
 
 -- A field of a name, where there is one.

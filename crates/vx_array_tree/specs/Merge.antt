@@ -36,9 +36,10 @@ abbrev pub structure_in : Typ → Value → Option Raw
 structure_in (node (structure ns m) ts) (node tuple vs) = Some (record { names = ns; types = ts; values = vs })
 structure_in _ _ = None
 
--- The structure that a value is, itself or inside a variant.
+-- The structure that a value is, itself or inside a variant. The type tells which of the two: an extension over Variant is
+-- no variant here.
 abbrev pub raw_structure : Typ → Value → Option Raw
-raw_structure d (node (variant e) (more v vs)) = structure_in e v
+raw_structure (node (variant_kind m) ts) (node (variant e) (more v vs)) = structure_in e v
 raw_structure d v = structure_in d v
 
 -- The first field of a name, its type and its value.

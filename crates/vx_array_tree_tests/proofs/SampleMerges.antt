@@ -36,6 +36,22 @@ structures_merge = refl
 over_number : merge typed_type (tuple (i32 1 ∷ null ∷ [])) (Some (variant_of (number_type P.I64 NonNullable) seven)) ≡ variant_of typed_type (tuple (i32 1 ∷ null ∷ []))
 over_number = refl
 
+-- The same under a name of a structure: one that is a structure too, itself or inside a variant, is merged in turn, and one
+-- of an extension over Variant is no variant.
+abbrev named_type : Typ → Typ
+named_type d = node (K.structure (codes "s" ∷ []) NonNullable) (more d end)
+
+abbrev extended : Typ
+extended = node (K.extension (codes "x.y") []) (more variants end)
+
+inner_merge : merge (named_type typed_type) (tuple (tuple (i32 1 ∷ null ∷ []) ∷ [])) (Some (variant_of (named_type variants) (tuple (variant_of raw_type (tuple (yes ∷ seven ∷ [])) ∷ []))))
+    ≡ variant_of (named_type variants) (tuple (variant_of merged_type (tuple (variant_of (number_type P.I32 NonNullable) (i32 1) ∷ yes ∷ variant_of (number_type P.I64 NonNullable) seven ∷ [])) ∷ []))
+inner_merge = refl
+
+extension_stands_apart : merge (named_type typed_type) (tuple (tuple (i32 1 ∷ null ∷ []) ∷ [])) (Some (variant_of (named_type extended) (tuple (variant_of raw_type (tuple (yes ∷ seven ∷ [])) ∷ []))))
+    ≡ variant_of (named_type variants) (tuple (variant_of typed_type (tuple (i32 1 ∷ null ∷ [])) ∷ []))
+extension_stands_apart = refl
+
 -- Null leaves the fallback, and is null without one.
 null_leaves : merge typed_type null (Some yes) ≡ yes
 null_leaves = refl

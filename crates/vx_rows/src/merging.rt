@@ -54,14 +54,15 @@ pub(crate) fn structure_within(scalar: &Scalar) -> Option<Structure<'_>>
     }
 }
 
-// The structure that a value of a type is, itself or inside a variant.
+// The structure that a value of a type is, itself or inside a variant. The type decides, not the value: an extension over
+// Variant is no variant here.
 fn raw_structure<'a>(dtype: &'a DType, value: &'a ScalarValue) -> Option<Structure<'a>>
     requires { Fits (value_of value.now) (typ dtype.now) }
     ensures found { option_map raw_of result ≡ raw_structure (typ dtype.now) (value_of value.now) }
     ensures sound { IfSome result (λ s. IsStructured (raw_of s)) }
 {
-    match value {
-        ScalarValue::Variant(scalar) => structure_within(scalar.get()),
+    match (dtype, value) {
+        (DType::Variant(_), ScalarValue::Variant(scalar)) => structure_within(scalar.get()),
         _ => structure_of(dtype, value),
     }
 }

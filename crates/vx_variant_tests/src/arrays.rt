@@ -3,7 +3,8 @@
 use std::alloc::Global;
 use vx_arrays::{Array, ArrayError, RowValue};
 use vx_nested_parts::parts::{
-    Made, There, and, bytes, fixed, numbers, one, shredded, structs, texts, two, unknown_variants,
+    Made, There, and, bytes, extensions, fixed, numbers, one, shredded, structs, texts, two,
+    unknown_variants,
 };
 use vx_nested_parts::rows::{begins_with, has_rows, has_slots, takes};
 use vx_types::PType;
@@ -161,6 +162,44 @@ fn what_is_opaque_hides_the_row(rt: HostRuntime) {
         Some(pairs(alloc, counts(alloc, There::Always))),
     );
     assert!(rt; has_rows(alloc, over, &["v([1])", "v([2])"]));
+}
+
+// Two variants of a structure of a number.
+fn held(alloc: Global) -> Made {
+    let pairs = pairs(alloc, counts(alloc, There::Always));
+    shredded(alloc, letters(alloc), Some(pairs))
+}
+
+// The same, at an extension over Variant.
+fn extended(alloc: Global) -> Made {
+    extensions(alloc, unknown_variants(alloc, 0), held(alloc))
+}
+
+// Two structures whose field `s` is this column, of the type of the first array.
+fn named(alloc: Global, kind: Made, column: Made) -> Made {
+    let types = one(alloc, kind);
+    structs(alloc, &["s"], types, one(alloc, column), 2, There::Always)
+}
+
+// Structures of a structure of a number over variants of these structures.
+fn over_structures(alloc: Global, structures: Made) -> Made {
+    let core = shredded(alloc, letters(alloc), Some(structures));
+    let kind = pairs(alloc, counts(alloc, There::Always));
+    let column = pairs(alloc, counts(alloc, There::Always));
+    shredded(alloc, core, Some(named(alloc, kind, column)))
+}
+
+// A field of the core's row is merged where its type is Variant. An extension over Variant is no variant, so the typed
+// structure stands alone.
+#[test]
+fn a_field_of_the_core_is_merged_by_its_type(rt: HostRuntime) {
+    let alloc = rt.alloc();
+    let variants = named(alloc, held(alloc), held(alloc));
+    let merged = over_structures(alloc, variants);
+    assert!(rt; has_rows(alloc, merged, &["v([v([v(1)])])", "v([v([v(2)])])"]));
+    let extensions = named(alloc, extended(alloc), extended(alloc));
+    let alone = over_structures(alloc, extensions);
+    assert!(rt; has_rows(alloc, alone, &["v([v([1])])", "v([v([2])])"]));
 }
 
 // A list of the numbers 1 and 2.

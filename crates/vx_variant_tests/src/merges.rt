@@ -4,8 +4,8 @@ ghost use Rattle.std.specs.Prelude.{IsTrue};
 ghost use Rattle.vx_types.specs.Fits.{IsVariant};
 
 use crate::scalars::{
-    Fields, MAYBE, Made, fixed_list, flag, list, maybe, no_structure, no_text, no_variant, none,
-    small, structure, variant, wide, with,
+    Fields, MAYBE, Made, extended, fixed_list, flag, list, maybe, no_structure, no_text,
+    no_variant, none, small, structure, variant, wide, with,
 };
 use crate::texts::is_text;
 use std::alloc::Global;
@@ -258,6 +258,28 @@ fn structures_over_others_are_themselves(rt: HostRuntime) {
     let fallback = variant(alloc, within(alloc, structure(raw(alloc)), 2));
     let inner = within(alloc, small(4), 1);
     assert!(rt; is_text(alloc, over(alloc, inner, fallback), "v({s: v(4), n: v(1)})"));
+}
+
+// The fallback's field is looked into by its type: an extension over Variant is no variant, so the typed structure stands
+// alone, and a field that is left over is wrapped once more.
+#[test]
+fn an_extension_over_variant_is_no_variant(rt: HostRuntime) {
+    let alloc = rt.alloc();
+    let held = extended(alloc, variant(alloc, structure(raw(alloc))));
+    let fallback = variant(alloc, within(alloc, held, 2));
+    let inner = within(alloc, structure(typed(alloc)), 1);
+    let text = "v({s: v({a: 1, b: null}), n: v(1)})";
+    assert!(rt; is_text(alloc, over(alloc, inner, fallback), text));
+    let held = extended(alloc, variant(alloc, small(5)));
+    let fallback = variant(alloc, within(alloc, held, 2));
+    let inner = within(alloc, no_structure(typed(alloc)), 1);
+    assert!(rt;
+        is_text(
+            alloc,
+            over(alloc, inner, fallback),
+            "v({n: v(1), s: v(v(5))})"
+        )
+    );
 }
 
 // Three fields, of which two have one name.

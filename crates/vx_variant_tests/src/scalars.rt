@@ -4,7 +4,8 @@ use std::alloc::Global;
 use vx_nested_parts::parts::both;
 use vx_scalars::{Scalar, ScalarError, ScalarValue, Values, VariantRef};
 use vx_types::{
-    DType, DTypes, Name, Names, Nullability, PType, PValue, StructFields, TypeError, TypeRef,
+    Blob, DType, DTypes, ExtDType, Id, Name, Names, Nullability, PType, PValue, StructFields,
+    TypeError, TypeRef,
 };
 
 const NEVER: Nullability = Nullability::NonNullable;
@@ -60,6 +61,35 @@ pub(crate) fn variant(alloc: Global, scalar: Made) -> Made {
 pub(crate) fn maybe(alloc: Global, scalar: Made) -> Made {
     match scalar {
         Ok(scalar) => wrapped(alloc, scalar, MAYBE),
+        Err(e) => Err(e),
+    }
+}
+
+// The extension over a storage type.
+fn extension_over(alloc: Global, storage: DType) -> Result<ExtDType, TypeError> {
+    let id = Id::new(alloc, "test.ext")?;
+    let metadata = Blob::copy_from(alloc, &[1])?;
+    ExtDType::new(alloc, id, metadata, storage)
+}
+
+// A value of that extension.
+fn extended_by(alloc: Global, storage: DType, value: Option<ScalarValue>) -> Made {
+    match extension_over(alloc, storage) {
+        Ok(ext) => Scalar::try_new(DType::Extension(ext), value),
+        Err(_) => {
+            drop(value);
+            Err(ScalarError::OutOfMemory)
+        }
+    }
+}
+
+/// The same value at an extension over the scalar's type.
+pub(crate) fn extended(alloc: Global, scalar: Made) -> Made {
+    match scalar {
+        Ok(scalar) => {
+            let (dtype, value) = scalar.into_parts();
+            extended_by(alloc, dtype, value)
+        }
         Err(e) => Err(e),
     }
 }
