@@ -1,10 +1,11 @@
 -- What is made where an array of structures is asked for, and how its node is split.
-use Rattle.std.specs.Prelude.{ℕ, Option, None, Some, if◌then◌else◌}
+use Rattle.std.specs.Prelude.{ℕ, ◌≡◌, Option, None, Some, IfSome, length, if◌then◌else◌}
 use Rattle.vx_trees.specs.Rose.{node, end, more, count, roses_of}
 use Rattle.vx_types.specs.Kind.{structure}
 use Rattle.vx_types.specs.Parts.{Fields}
 use Rattle.vx_types.specs.Typ.{Typ}
 use Rattle.vx_types.specs.declared.nullability.Nullability.{Nullability}
+use Rattle.vx_types.specs.declared.nullability.Nullability.TheVariants.{Nullable}
 use Rattle.vx_array_tree.specs.Body as B
 use Rattle.vx_array_tree.specs.Encodings.Structs.{has_validity}
 use Rattle.vx_array_tree.specs.Tree.{Head, Tree, Trees, untold}
@@ -12,6 +13,11 @@ use Rattle.vx_array_tree.specs.Tree.{Head, Tree, Trees, untold}
 -- A node of structures of these fields.
 abbrev pub struct_head : Fields → Nullability → ℕ → Head
 struct_head fields m n = untold (node (structure fields.names m) (roses_of fields.types)) n B.struct
+
+-- The arguments of the constructor fit one another: one column for each field, and a validity only under a nullable type.
+-- The tree that is made does not tell this: a validity may look like the first of the columns, and a column like a validity.
+abbrev pub AreStructParts : Fields → Nullability → Trees → Option Tree → Type 0
+AreStructParts fields m columns validity = (count columns ≡ length fields.types) × (IfSome validity (λ _. m ≡ Nullable))
 
 -- Children after a validity, where one stands.
 abbrev pub behind_validity : Option Tree → Trees → Trees

@@ -21,7 +21,7 @@ use Rattle.vx_array_tree.specs.Place.{behind_validity as behind}
 use Rattle.vx_array_tree.specs.Table.{IsShaped, body_of, plan_of}
 use Rattle.vx_array_tree.specs.Tree.{Tree, Trees, places, untold}
 use Rattle.vx_arrays.specs.Refused.{RefusesMaking}
-use Rattle.vx_arrays.specs.Structs.{IsOfFields, behind_validity, struct_head, struct_tree}
+use Rattle.vx_arrays.specs.Structs.{IsOfFields, struct_head}
 use Rattle.vx_rows.specs.declared.error.ArrayError.{ArrayError}
 use Rattle.vx_encodings.proofs.Bare.{struct_metadata, struct_nothing}
 use Rattle.vx_encodings.proofs.Fitting.{constructor_refused}
@@ -146,30 +146,28 @@ count_of (node (structure names m) ts) n k us p = behind_count (places_at ts n) 
 count_of _ n k us p = absurd (cc)
 
 -- What the constructor makes is the node of the head's type and length over the children.
-made : (h : ArrayHead) (us columns : Trees) (v : Option Tree) (f : Fields) (m : Nullability) → h.dtype ≡ D.Struct f m → behind_validity v columns ≡ us
-    → struct_tree f m columns h.len v ≡ node (untold (typ h.dtype) h.len B.struct) us
-made h us columns v f m q r =
-    ap (λ (z : Trees). node (struct_head f m h.len) z) r ∙ ap (λ (z : DType). node (untold (typ z) h.len B.struct) us) (sym q)
+made : (h : ArrayHead) (us : Trees) (f : Fields) (m : Nullability) → h.dtype ≡ D.Struct f m → node (struct_head f m h.len) us ≡ node (untold (typ h.dtype) h.len B.struct) us
+made h us f m q = ap (λ (z : DType). node (untold (typ z) h.len B.struct) us) (sym q)
 
 bodied : (bs : List Buffer) → bs ≡ [] → body_of E.struct M.empty bs ≡ Some B.struct
 bodied bs e = ap (λ (cs : List Buffer). body_of E.struct M.empty cs) e
 
 -- The array that is built has these parts.
-pub structures_built : (x : ExtMeaning) (h : ArrayHead) (bs : List Buffer) (us columns : Trees) (v : Option Tree) (f : Fields) (m : Nullability) (t : Tree)
-    → (y : ExtMeaning) × IsPlanned y Struct h (places us) → bs ≡ [] → h.dtype ≡ D.Struct f m → behind_validity v columns ≡ us → t ≡ struct_tree f m columns h.len v → IsBuilt x Struct h bs us t
-structures_built x h bs us columns v f m t planned b q r w =
+pub structures_built : (x : ExtMeaning) (h : ArrayHead) (bs : List Buffer) (us : Trees) (f : Fields) (m : Nullability) (t : Tree)
+    → (y : ExtMeaning) × IsPlanned y Struct h (places us) → bs ≡ [] → h.dtype ≡ D.Struct f m → t ≡ node (struct_head f m h.len) us → IsBuilt x Struct h bs us t
+structures_built x h bs us f m t planned b q w =
     let k = structures_plan planned.0 h us planned.1 in
-    single_built x Struct h M.empty (struct_metadata x (typ h.dtype) h.metadata k.no_byte) bs us B.struct t (bodied bs b) (w ∙ made h us columns v f m q r)
+    single_built x Struct h M.empty (struct_metadata x (typ h.dtype) h.metadata k.no_byte) bs us B.struct t (bodied bs b) (w ∙ made h us f m q)
 
 -- Parts that the constructor refuses do not fit the row of a planned node.
-pub structures_refused : (x : ExtMeaning) (error : ArrayError) (h : ArrayHead) (bs : List Buffer) (us columns : Trees) (v : Option Tree) (f : Fields) (m : Nullability)
-    → (y : ExtMeaning) × IsPlanned y Struct h (places us) → bs ≡ [] → h.dtype ≡ D.Struct f m → behind_validity v columns ≡ us → RefusesMaking error (struct_tree f m columns h.len v)
+pub structures_refused : (x : ExtMeaning) (error : ArrayError) (h : ArrayHead) (bs : List Buffer) (us : Trees) (f : Fields) (m : Nullability)
+    → (y : ExtMeaning) × IsPlanned y Struct h (places us) → bs ≡ [] → h.dtype ≡ D.Struct f m → RefusesMaking error (node (struct_head f m h.len) us)
     → RefusesBuilding (constructor_error error) x Struct h bs us
-structures_refused x error h bs us columns v f m planned b q r refused =
+structures_refused x error h bs us f m planned b q refused =
     let k = structures_plan planned.0 h us planned.1 in
     let counted : plan (typ h.dtype) h.len (count us) ≡ Some (places us) = subst (λ (j : ℕ). plan (typ h.dtype) h.len j ≡ Some (places us)) (count_of (typ h.dtype) h.len h.nchildren us k.planned) k.planned in
-    constructor_refused x Struct h M.empty (struct_metadata x (typ h.dtype) h.metadata k.no_byte) error bs us B.struct (struct_tree f m columns h.len v)
-    (bodied bs b) tt counted refl tt (made h us columns v f m q r) refused
+    constructor_refused x Struct h M.empty (struct_metadata x (typ h.dtype) h.metadata k.no_byte) error bs us B.struct (node (struct_head f m h.len) us)
+    (bodied bs b) tt counted refl tt (made h us f m q) refused
 
 -- A node with buffers does not fit.
 bufferless : (d : Typ) (n : ℕ) (bs : List Buffer) (k : ℕ) → bs ≢ [] → IsShaped E.struct d n M.empty bs k → ⊥

@@ -49,14 +49,7 @@ fn over_fields(alloc: Global, fields: Arrays, rows: usize) -> Result<Array, Arra
     ensures err { IsOkOrMemory result }
 {
     match fields_of(alloc) {
-        Ok(names) => StructArray::try_new(
-            alloc,
-            names,
-            Nullability::NonNullable,
-            fields,
-            rows,
-            None,
-        ),
+        Ok(names) => StructArray::of_children(names, Nullability::NonNullable, rows, fields),
         Err(TypeError::OutOfMemory) => Err(ArrayError::OutOfMemory),
         Err(_) => unreachable!(),
     }

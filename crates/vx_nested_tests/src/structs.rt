@@ -3,7 +3,7 @@
 use std::alloc::Global;
 use vx_arrays::ArrayError;
 use vx_nested_parts::parts::{
-    AllMade, Made, There, and, bytes, none, nulls, one, structs, texts, two,
+    AllMade, Made, There, and, bytes, flags, none, nulls, one, structs, texts, two,
 };
 use vx_nested_parts::rows::{has_rows, has_slots, takes};
 
@@ -108,6 +108,40 @@ fn there_is_a_column_for_each_field(rt: HostRuntime) {
         let many = pairs_of(alloc, three, 3, there);
         assert!(rt; many.err() == UNFIT, "{there:?}");
     }
+}
+
+// Three flags, none of them null.
+fn three_flags(alloc: Global) -> Made {
+    flags(alloc, 0b101, 3)
+}
+
+// Three structures of a flag and a text, by these columns.
+fn flagged(alloc: Global, columns: AllMade, there: There) -> Made {
+    let types = two(alloc, three_flags(alloc), letters(alloc));
+    structs(alloc, &["a", "b"], types, columns, 3, there)
+}
+
+// A validity looks like a column of flags: neither is taken for the other.
+#[test]
+fn a_validity_is_no_column(rt: HostRuntime) {
+    let alloc = rt.alloc();
+    for there in [There::Bits(7), There::Unasked(7)] {
+        let few = flagged(alloc, one(alloc, letters(alloc)), there);
+        assert!(rt; few.err() == UNFIT, "{there:?}");
+    }
+    for there in [There::Always, There::All] {
+        let three = and(
+            two(alloc, three_flags(alloc), three_flags(alloc)),
+            letters(alloc),
+        );
+        assert!(rt; flagged(alloc, three, there).err() == UNFIT, "{there:?}");
+    }
+    let whole = flagged(
+        alloc,
+        two(alloc, three_flags(alloc), letters(alloc)),
+        There::Bits(7),
+    );
+    assert!(rt; whole.err() == None);
 }
 
 #[test]

@@ -1,6 +1,6 @@
 //! Arrays of structures.
 
-ghost use Rattle.std.specs.Prelude.{◌≡◌, ◌<◌, ◌≤◌, ◌↔◌, IfOk, IfErr, IsOkUnless, IsTrue, length};
+ghost use Rattle.std.specs.Prelude.{◌≡◌, ◌<◌, ◌≤◌, ◌↔◌, Err, IfOk, IfErr, IsOkUnless, IsTrue, length};
 ghost use Rattle.vx_trees.specs.Everywhere.{EverywhereBelow};
 ghost use Rattle.vx_trees.specs.Rose.{node, roses_of};
 ghost use Rattle.vx_trees.specs.Walks.{nodes_of};
@@ -14,7 +14,7 @@ ghost use Rattle.vx_array_tree.specs.Sound.{IsSound, IsSoundNode};
 ghost use Rattle.vx_array_tree.specs.Tree.{array_place, places, rows_below, untold};
 ghost use Rattle.vx_arrays.specs.Parts.{AreThere, parts_cells, parts_nodes, parts_value};
 ghost use Rattle.vx_arrays.specs.Refused.{RefusesMaking, IsOkOrMemory};
-ghost use Rattle.vx_arrays.specs.Structs.{IsOfFields, behind_validity, field_trees, struct_head, struct_tree};
+ghost use Rattle.vx_arrays.specs.Structs.{AreStructParts, IsOfFields, behind_validity, field_trees, struct_head, struct_tree};
 
 use crate::array::Array;
 use crate::body::Body;
@@ -80,11 +80,12 @@ impl StructArray {
         where_there(valid, RowParts::Across { arrays, index })
     }
 
-    /// The array of `len` structures of these fields, whose columns have as many rows each: of every column a row is the
-    /// field of a structure. Where some rows are null, `validity` holds for each row whether it is there.
+    /// The array of `len` structures of these fields, with one column of `len` rows for each field. Where some rows are
+    /// null, `validity` says of each row whether it is there.
     ///
-    /// `ForeignControl` where such an array would be sound but for a foreign node in the validity, and `BadShape` where it
-    /// is not sound otherwise.
+    /// `BadShape` where there are more or fewer columns than fields, where a validity is given under a type that is not
+    /// nullable, and where a column or the validity has another type or length. `ForeignControl` where a foreign node
+    /// stands in the validity.
     pub fn try_new(
         _alloc: Global,
         fields: StructFields,
@@ -95,17 +96,61 @@ impl StructArray {
     ) -> Result<Array, ArrayError>
         ensures ok { IfOk result (λ a. a ≡ struct_tree fields nullability columns len validity) }
         ensures sound { IfOk result IsSound }
-        ensures err { IfErr result (λ e. RefusesMaking e (struct_tree fields nullability columns len validity)) }
-        ensures complete { IsSound (struct_tree fields nullability columns len validity) → IsOkOrMemory result }
+        ensures parts { IfOk result (λ _. AreStructParts fields nullability columns validity) }
+        ensures unfit { (AreStructParts fields nullability columns validity → ⊥) → result ≡ Err ArrayError.BadShape }
+        ensures err { AreStructParts fields nullability columns validity →
+            IfErr result (λ e. RefusesMaking e (struct_tree fields nullability columns len validity)) }
+        ensures complete { AreStructParts fields nullability columns validity →
+            IsSound (struct_tree fields nullability columns len validity) → IsOkOrMemory result }
     {
+        if !are_struct_parts(&fields, nullability, &columns, &validity) {
+            return Err(ArrayError::BadShape);
+        }
         match behind_validity(validity, columns) {
             Ok(children) => over_columns(fields, nullability, len, children),
             Err(error) => Err(error),
         }
     }
+
+    /// The array of `len` structs over the children of a node: a validity where there is one child more than fields, and
+    /// then the columns.
+    ///
+    /// `BadShape` where there is another number of children, where a validity stands under a type that is not nullable,
+    /// and where a child has another type or length. `ForeignControl` where a foreign node stands in the validity.
+    pub fn of_children(
+        fields: StructFields,
+        nullability: Nullability,
+        len: usize,
+        children: Arrays,
+    ) -> Result<Array, ArrayError>
+        ensures ok { IfOk result (λ a. a ≡ node (struct_head fields nullability len) children) }
+        ensures sound { IfOk result IsSound }
+        ensures err { IfErr result (λ e. RefusesMaking e (node (struct_head fields nullability len) children)) }
+        ensures complete { IsSound (node (struct_head fields nullability len) children) → IsOkOrMemory result }
+    {
+        over_columns(fields, nullability, len, children.into_vec())
+    }
 }
 
-// The array of so many structures over these children.
+// Whether there is one column for each field, and a validity only under a nullable type.
+fn are_struct_parts(
+    fields: &StructFields,
+    nullability: Nullability,
+    columns: &Arrays,
+    validity: &Option<Array>,
+) -> bool
+    ensures { IsTrue result ↔ AreStructParts fields.now nullability columns.now validity.now }
+{
+    if columns.len() != fields.fields().len() {
+        return false;
+    }
+    match validity {
+        Some(_) => nullability == Nullability::Nullable,
+        None => true,
+    }
+}
+
+// The array of `len` structures over these children.
 fn over_columns(
     fields: StructFields,
     nullability: Nullability,

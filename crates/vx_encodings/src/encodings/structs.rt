@@ -7,7 +7,6 @@ ghost use Rattle.vx_types.specs.Seen.{typs};
 ghost use Rattle.vx_array_tree.specs.Place.{behind_validity as behind, places_at};
 ghost use Rattle.vx_array_tree.specs.Sound.{IsSound};
 ghost use Rattle.vx_array_tree.specs.Tree.{places};
-ghost use Rattle.vx_arrays.specs.Structs.{behind_validity};
 ghost use Rattle.vx_encodings.specs.Steps.{IsPlanned, RefusesPlanning, IsBuilt, RefusesBuilding};
 ghost use Rattle.vx_plans.specs.Plans.{RefusesPlaces};
 ghost use Rattle.vx_encodings.specs.declared.encoding.Encoding.TheVariants.{Struct};
@@ -77,7 +76,6 @@ pub(crate) fn with_fields(
 // The node of structures of these parts.
 #[tactic(auto, using(crate::proofs::StructSteps::struct_steps))]
 pub(crate) fn build(
-    alloc: Global,
     head: ArrayHead,
     buffers: BufferHandles,
     children: Arrays,
@@ -94,22 +92,8 @@ pub(crate) fn build(
         Some(parts) => parts,
         None => unreachable!(),
     };
-    let (validity, columns) = front_and_fields(children, fields.fields().len());
-    match StructArray::try_new(alloc, fields, nullability, columns, head.len, validity) {
+    match StructArray::of_children(fields, nullability, head.len, children) {
         Ok(array) => Ok(array),
         Err(e) => Err(of_constructor(e)),
     }
-}
-
-// The optional validity in front of the fields, and the fields. A node has a validity where it has one child more than
-// fields.
-fn front_and_fields(children: Arrays, width: usize) -> (Option<Array>, Arrays)
-    ensures { behind_validity result.0 result.1 ≡ children }
-{
-    let mut columns = children;
-    if columns.len() <= width {
-        return (None, columns);
-    }
-    let validity = columns.remove_first();
-    (Some(validity), columns)
 }

@@ -42,7 +42,7 @@ pub(crate) fn build_by(
         Encoding::FixedSizeList => encodings::fixed_size_list::build(
             alloc, head, buffers, children,
         ),
-        Encoding::Struct => encodings::structs::build(alloc, head, buffers, children),
+        Encoding::Struct => encodings::structs::build(head, buffers, children),
         Encoding::Extension => encodings::extension::build(head, buffers, children),
         Encoding::List => encodings::lists::build(head, buffers, children),
         Encoding::ListView => encodings::list_view::build(head, buffers, children),
