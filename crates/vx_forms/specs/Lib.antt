@@ -1,0 +1,11 @@
+pub mod Form
+pub mod Tested
+pub mod Numbers
+pub mod Pairs
+pub mod Mapped
+pub mod Octets
+pub mod Lists
+pub mod Prefixed
+pub mod Frame
+pub mod Refused
+pub mod FrameSeen
