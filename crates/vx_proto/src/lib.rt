@@ -50,3 +50,4 @@ pub use plain::{MessageKind, PlainMessage};
 pub use schema::{Kind, Member, ScalarKind, Schema, Slot};
 pub use signed::{int32_number, int32_of, unzigzag, zigzag};
 pub use wire::{Field, Part};
+pub use writing::nests_within;
