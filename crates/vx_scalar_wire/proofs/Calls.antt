@@ -1,8 +1,8 @@
 -- What the calls that read bytes, and scalars of a type, answer.
 use Rattle.std.specs.Prelude.{IfErr, MatchResult, Option, Result, Ok, Err}
-use Rattle.std.proofs.Common.{◌≡◌, ◌∙◌, ◌≤◌, ◌⊎◌, ℕ, List, refl, sym, ap, subst, inl, inr}
+use Rattle.std.proofs.Common.{◌≡◌, ◌∙◌, ◌<◌, ◌≤◌, ◌⊎◌, ℕ, List, [], ◌∷◌, refl, sym, ap, subst, inl, inr, arith}
 use Rattle.vx_proto.specs.Reads.{Cause, Reads}
-use Rattle.vx_proto.specs.Value.{Value}
+use Rattle.vx_proto.specs.Value.{Value, one_message}
 use Rattle.vx_proto.specs.Written.{nested}
 use Rattle.vx_proto.specs.declared.error.ProtoError.{ProtoError}
 use Rattle.vx_proto.specs.declared.error.ProtoError.TheVariants as proto
@@ -14,14 +14,21 @@ use Rattle.vx_types.specs.Value as V
 use Rattle.vx_scalars.specs.Seen.{seen}
 use Rattle.vx_types.specs.declared.error.TypeError.{TypeError}
 use Rattle.vx_types.specs.declared.error.TypeError.TheVariants as type_error
+use Rattle.vx_scalars.specs.Told.{Typed}
 use Rattle.vx_scalars.specs.declared.value.ScalarValue.{ScalarValue}
 use Rattle.vx_scalar_wire.specs.Reading.{ReadsValue, ShowsValue}
-use Rattle.vx_scalar_wire.specs.Refusing.{RefusesReadingValue}
-use Rattle.vx_scalar_wire.specs.RefusingCalls.{RefusesReadingScalarAt, RefusesReadingValueBytes}
+use Rattle.vx_scalar_wire.specs.Refusing.{RefusesReadingScalar, RefusesReadingValue}
+use Rattle.vx_scalar_wire.specs.RefusingCalls.{RefusesReadingScalarAt, RefusesReadingScalarMessage, RefusesReadingValueBytes}
 use Rattle.vx_scalar_wire.specs.ScalarMessage.{scalar_lists}
 use Rattle.vx_scalar_wire.specs.Writing.{refusal_of_proto, refusal_of_scalar}
 use Rattle.vx_scalar_wire.specs.declared.error.ScalarWireError.{ScalarWireError}
-use Rattle.vx_scalar_wire.specs.declared.error.ScalarWireError.TheVariants.{OutOfMemory, BadScalar}
+use Rattle.vx_scalar_wire.specs.declared.error.ScalarWireError.TheVariants.{OutOfMemory, TooDeep, BadScalar}
+
+-- ---- depth
+
+-- At most 100 messages nest in a value where they do in its slots.
+pub never_deep : (v w : Value) → w ≡ v → nested w ≤ 100 → 100 < nested v → ⊥
+never_deep v w e n m = absurd (omega (arith, ap nested e, n, m))
 
 -- ---- bytes
 
@@ -62,6 +69,22 @@ bytes_complete r s v d bytes m q n h k =
     h v n (subst (λ (x : Value). ReadsValue s v d x) same k.2)
 
 pub ruleset bytes_read = (proto_refused, proto_memory, message_refused, bytes_complete)
+
+-- ---- scalars
+
+deep_scalar : (l t w : Value) → l ≡ one_message 1 t ∷ one_message 2 w ∷ [] → 100 < nested w → 100 < nested l
+deep_scalar l t w e n = let whole : nested l ≡ nested (one_message 1 t ∷ one_message 2 w ∷ []) = ap nested e in omega (arith, whole, n)
+
+scalar_caused : (e : ScalarWireError) (s : ExtMeaning) (l : Value) → RefusesReadingScalar e s 100 l → RefusesReadingScalarMessage e s l
+scalar_caused OutOfMemory s l h = tt
+scalar_caused TooDeep s l (inl h) = absurd h
+scalar_caused TooDeep s l (inr h) = deep_scalar l h.0 h.1 h.3 h.5
+scalar_caused _ s l h = h
+
+-- A scalar's message that is refused is refused as a whole.
+pub scalar_message : (r : Result Typed ScalarWireError) (s : ExtMeaning) (l : Value) → IfErr r (λ e. RefusesReadingScalar e s 100 l) → IfErr r (λ e. RefusesReadingScalarMessage e s l)
+scalar_message (Ok x) s l h = tt
+scalar_message (Err e) s l h = scalar_caused e s l h
 
 -- ---- scalars of a type
 

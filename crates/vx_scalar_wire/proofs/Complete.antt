@@ -1,12 +1,11 @@
 -- A message that is read as a value at a type has no cause of a refusal.
 use Rattle.std.specs.Prelude.{IfErr, IfOk, MatchResult, Option, Result, Ok, Err, if◌then◌else◌}
-use Rattle.std.proofs.Common.{◌≡◌, ◌∙◌, ◌==◌, ◌*◌, ◌<◌, ◌≤◌, Bool, true, false, ℕ, zero, suc, ℤ, pos, negsuc, List, [], ◌∷◌, Some, None, length, refl, sym, ap, subst, inl, inr, arith}
+use Rattle.std.proofs.Common.{◌≡◌, ◌∙◌, ◌==◌, ◌<◌, ◌≤◌, Bool, true, false, ℕ, zero, suc, ℤ, pos, negsuc, List, [], ◌∷◌, Some, None, length, refl, sym, ap, subst, inl, inr, arith}
 use lib.Utf8.{encode}
 use Rattle.std.specs.Cmp.{unsigned_Decides}
 use Rattle.std.proofs.lemmas.Str.{is_utf8-from_IsUtf8}
 use Rattle.vx_trees.specs.Everywhere.{EverywhereBelow}
 use Rattle.vx_trees.specs.Rose.{Roses, node, end, more, count}
-use Rattle.vx_trees.specs.Walks.{levels}
 use Rattle.vx_proto.specs.Parts.{entries_in, message_in, number_in}
 use Rattle.vx_proto.specs.Signed.{zigzag}
 use Rattle.vx_proto.specs.Value.{Content, Entry, Value, number, octets, message, slots_of}
@@ -16,8 +15,9 @@ use Rattle.vx_proto.proofs.LawsOfViews.{message_is}
 use Rattle.vx_type_wire.specs.Known.{ExtMeaning, IsNotKnown, IsRead}
 use Rattle.vx_proto.specs.Value.{one_number, one_message}
 use Rattle.vx_type_wire.specs.TypeMessage.{IsMessageOf, all_messages}
+use Rattle.vx_type_wire.specs.declared.error.TypeWireError.{TypeWireError}
 use Rattle.vx_type_wire.specs.declared.error.TypeWireError.TheVariants as type_error
-use Rattle.vx_type_wire.proofs.LawsTypes.{type_depth, message-injective, known_or}
+use Rattle.vx_type_wire.proofs.LawsTypes.{message-injective, known_or}
 use Rattle.vx_trees.specs.Bytes.{AreBytes}
 use Rattle.vx_types.specs.Content.{IsText}
 use Rattle.vx_types.specs.Fits.{Fits, FitBy, FitsMember, IsBoolean, IsOf, IsDecimal, IsUtf8, IsBinary, IsVariant, bare, bare_first, member}
@@ -39,8 +39,6 @@ use Rattle.vx_scalar_wire.specs.Reading.{Holds, HoldsInteger, HoldsNumber, Holds
 use Rattle.vx_scalar_wire.specs.Refusing.{is_one_of, numeral_members, members_at, integer_of, NoneIs, OfUnion, IsOtherCount, IsAt, IsFieldAt, IsPartType, IsPart, IsWithin, IsScalarCause, RefusesTypeBy, IsCause, RefusesReadingValue, RefusesReadingScalar}
 use Rattle.vx_scalar_wire.specs.declared.error.ScalarWireError.{ScalarWireError}
 use Rattle.vx_scalar_wire.specs.declared.error.ScalarWireError.TheVariants.{OutOfMemory, TooDeep, MissingKind, KindMismatch, OutOfRange, BadChild, BadScalar, BadDType}
-use Rattle.vx_scalar_wire.specs.declared.error.TypeRefusal.{TypeRefusal}
-use Rattle.vx_scalar_wire.specs.declared.error.TypeRefusal.TheVariants.{BadType, UnknownExtension, ExtensionRefused, WireLimit}
 use Rattle.vx_scalar_wire.proofs.Inversions.{only_text, only_decimal, only_tuple, only_union, only_variant}
 use Rattle.vx_scalar_wire.proofs.Digits.{size, sized}
 use Rattle.vx_scalar_wire.proofs.Leaves.{at_numbers}
@@ -321,20 +319,25 @@ value_held s l q = ap (λ (x : Value). message_in (entries_in x 1)) q.is ∙ mes
 one_typed : (s : ExtMeaning) (a b : Value) (t u : Typ) → a ≡ b → IsRead (IsMessageOf a) s t → IsMessageOf b u → t ≡ u
 one_typed s a b t u e h k = message-injective t u h.shows.is_type k.is_type (sym h.shows.is ∙ e ∙ k.is)
 
--- At most 50 levels have messages that nest so little.
-few_levels : (s : ExtMeaning) (l : Value) (q : ScalarRead s l) → nested l ≤ 100 → levels q.dtype ≤ 50
-few_levels s l q n =
+-- The message of a scalar's type nests no deeper than the scalar's.
+flat_type : (s : ExtMeaning) (l t : Value) (q : ScalarRead s l) → nested l ≤ 100 → q.typed_by ≡ t → nested t ≤ 100
+flat_type s l t q n e =
     let whole : nested l ≡ nested (one_message 1 q.typed_by ∷ one_message 2 q.inner ∷ []) = ap nested q.is in
-    let typed : nested q.typed_by ≡ 2 * levels q.dtype = ap nested q.shown.shows.is ∙ type_depth q.dtype q.shown.shows.is_type in
-    omega (arith, whole, typed, n)
+    let same : nested q.typed_by ≡ nested t = ap nested e in
+    omega (arith, whole, same, n)
 
-not_unread : (r : TypeRefusal) (s : ExtMeaning) (l t : Value) (q : ScalarRead s l) → nested l ≤ 100 → q.typed_by ≡ t → RefusesTypeBy r s t → ⊥
-not_unread BadType s l t q n e h = h q.dtype (few_levels s l q n) (record { is_type = q.shown.shows.is_type; is = sym e ∙ q.shown.shows.is })
-not_unread UnknownExtension s l t q n e h =
+not_unread : (r : TypeWireError) (s : ExtMeaning) (l t : Value) (q : ScalarRead s l) → nested l ≤ 100 → q.typed_by ≡ t → RefusesTypeBy r s t → ⊥
+not_unread type_error.OutOfMemory s l t q n e h = h
+not_unread type_error.BadTable s l t q n e h = h
+not_unread type_error.TableLimit s l t q n e h = h
+not_unread type_error.BadMessage s l t q n e h = h
+not_unread type_error.TooDeep s l t q n e h = absurd (omega (arith, flat_type s l t q n e, h))
+not_unread type_error.BadType s l t q n e h = h q.dtype (record { is_type = q.shown.shows.is_type; is = sym e ∙ q.shown.shows.is })
+not_unread type_error.UnknownExtension s l t q n e h =
     known_or type_error.UnknownExtension s q.dtype (subst (λ u. IsNotKnown type_error.UnknownExtension s u) (sym (one_typed s q.typed_by t q.dtype h.0 e q.shown h.1.0)) h.1.1) q.shown.known
-not_unread ExtensionRefused s l t q n e h =
+not_unread type_error.ExtensionRefused s l t q n e h =
     known_or type_error.ExtensionRefused s q.dtype (subst (λ u. IsNotKnown type_error.ExtensionRefused s u) (sym (one_typed s q.typed_by t q.dtype h.0 e q.shown h.1.0)) h.1.1) q.shown.known
-not_unread WireLimit s l t q n e h = h
+not_unread type_error.WireLimit s l t q n e h = h
 
 -- A scalar's message that is read has no cause of its own.
 no_scalar_cause : (e : ScalarWireError) (s : ExtMeaning) (l : Value) → ScalarRead s l → nested l ≤ 100 → IsScalarCause e s l → ⊥

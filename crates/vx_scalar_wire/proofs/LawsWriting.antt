@@ -18,7 +18,7 @@ use Rattle.vx_scalar_wire.specs.StatsUnwritten.{RefusesWritingTold, RefusesWriti
 use Rattle.vx_scalar_wire.specs.Writing.{RefusesWritingValueBytes}
 use Rattle.vx_scalar_wire.specs.declared.error.ScalarWireError.{ScalarWireError}
 use Rattle.vx_scalar_wire.specs.declared.error.ScalarWireError.TheVariants.{OutOfMemory, BadMessage, TooDeep, MissingKind, KindMismatch, OutOfRange, BadChild, BadScalar, BadPrecision, BadDType, MessageTooLong}
-use Rattle.vx_scalar_wire.specs.declared.error.TypeRefusal.TheVariants.{WireLimit}
+use Rattle.vx_type_wire.specs.declared.error.TypeWireError.TheVariants.{WireLimit}
 use Rattle.vx_scalar_wire.proofs.StatsBack.{IsLeaf, ordered_leaf, sum_leaf, leaf_known, no_parts, no_member, no_variant}
 
 -- ---- values of the types of statistics are shallow, and their messages are flat

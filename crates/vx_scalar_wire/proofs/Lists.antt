@@ -19,7 +19,7 @@ use Rattle.vx_scalar_wire.specs.Shallow.{IsShallow, AreShallow}
 use Rattle.vx_scalar_wire.specs.Writing.{RefusesWritingValue}
 use Rattle.vx_scalar_wire.specs.declared.error.ScalarWireError.{ScalarWireError}
 use Rattle.vx_scalar_wire.specs.declared.error.ScalarWireError.TheVariants.{OutOfMemory, BadMessage, TooDeep, MissingKind, KindMismatch, OutOfRange, BadChild, BadScalar, BadDType, BadPrecision, MessageTooLong}
-use Rattle.vx_scalar_wire.specs.declared.error.TypeRefusal.TheVariants.{BadType, UnknownExtension, ExtensionRefused, WireLimit}
+use Rattle.vx_type_wire.specs.declared.error.TypeWireError.TheVariants as type_error
 
 -- The members of a list of values.
 abbrev pub written_list : List (Option ScalarValue) → List Entry
@@ -88,7 +88,12 @@ unwritten-whole BadScalar Part Whole f u = absurd u
 unwritten-whole OutOfRange Part Whole f u = absurd u
 unwritten-whole BadPrecision Part Whole f u = absurd u
 unwritten-whole MessageTooLong Part Whole f u = absurd u
-unwritten-whole (BadDType BadType) Part Whole f u = absurd u
-unwritten-whole (BadDType UnknownExtension) Part Whole f u = absurd u
-unwritten-whole (BadDType ExtensionRefused) Part Whole f u = absurd u
-unwritten-whole (BadDType WireLimit) Part Whole f u = λ w. u (f w)
+unwritten-whole (BadDType type_error.WireLimit) Part Whole f u = λ w. u (f w)
+unwritten-whole (BadDType type_error.OutOfMemory) Part Whole f u = absurd u
+unwritten-whole (BadDType type_error.BadTable) Part Whole f u = absurd u
+unwritten-whole (BadDType type_error.TableLimit) Part Whole f u = absurd u
+unwritten-whole (BadDType type_error.BadMessage) Part Whole f u = absurd u
+unwritten-whole (BadDType type_error.TooDeep) Part Whole f u = absurd u
+unwritten-whole (BadDType type_error.BadType) Part Whole f u = absurd u
+unwritten-whole (BadDType type_error.UnknownExtension) Part Whole f u = absurd u
+unwritten-whole (BadDType type_error.ExtensionRefused) Part Whole f u = absurd u

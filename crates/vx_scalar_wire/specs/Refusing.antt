@@ -7,6 +7,7 @@ use Rattle.vx_proto.specs.Written.{nested}
 use Rattle.vx_type_wire.specs.Known.{ExtMeaning, IsRead}
 use Rattle.vx_proto.specs.Value.{one_number, one_message}
 use Rattle.vx_type_wire.specs.TypeMessage.{IsMessageOf, RefusesReadingType}
+use Rattle.vx_type_wire.specs.declared.error.TypeWireError.{TypeWireError}
 use Rattle.vx_type_wire.specs.declared.error.TypeWireError.TheVariants as type_error
 use Rattle.vx_types.specs.Content.{IsText}
 use Rattle.vx_types.specs.Fits.{Fits, FitsMember, IsDecimal, IsOf, IsUtf8, IsVariant, bare, member}
@@ -23,8 +24,6 @@ use Rattle.vx_numbers.specs.declared.value.PValue.TheVariants.{U8, U16, U32, U64
 use Rattle.vx_scalar_wire.specs.Reading.{Holds, HoldsInteger, HoldsNumber, HoldsOctets, ReadsValue}
 use Rattle.vx_scalar_wire.specs.declared.error.ScalarWireError.{ScalarWireError}
 use Rattle.vx_scalar_wire.specs.declared.error.ScalarWireError.TheVariants.{OutOfMemory, TooDeep, MissingKind, KindMismatch, OutOfRange, BadChild, BadScalar, BadDType}
-use Rattle.vx_scalar_wire.specs.declared.error.TypeRefusal.{TypeRefusal}
-use Rattle.vx_scalar_wire.specs.declared.error.TypeRefusal.TheVariants.{BadType, UnknownExtension, ExtensionRefused, WireLimit}
 
 -- ---- which members are read at a type
 
@@ -83,19 +82,19 @@ IsNoInteger KindMismatch p z = is_integer p ≡ false
 IsNoInteger OutOfRange p z = (is_integer p ≡ true) × NoneIs p z
 IsNoInteger _ p z = ⊥
 
--- An integer stands at a type of integers that has it not.
+-- An integer stands at a type of integers that does not contain it.
 abbrev pub IsOutside : Typ → Value → Type 0
 IsOutside d m = (p : PType) × (z : ℤ) × IsOf p (bare d) × (is_integer p ≡ true) × HoldsInteger m z × NoneIs p z
 
--- Bits stand at a type of floats of fewer.
+-- Bits stand at a type of floats, and are more than the type has.
 abbrev pub HasMoreBits : Typ → Value → Type 0
 HasMoreBits d m = (x : PValue) × IsOf (kind_of x) (bare d) × (is_integer (kind_of x) ≡ false) × HoldsNumber m x × (IsInRange x → ⊥)
 
--- Bytes stand at a type of decimals, and no width has so many.
+-- Bytes stand at a type of decimals, and their length is no width.
 abbrev pub HasNoWidth : Typ → Value → Type 0
 HasNoWidth d m = (bs : List ℕ) × IsDecimal (bare d) × Holds m 8 (octets bs) × (is_one_of (length bs) (1 ∷ 2 ∷ 4 ∷ 8 ∷ 16 ∷ 32 ∷ []) ≡ false)
 
--- Bytes stand at a type of texts, and are none.
+-- Bytes stand at a type of texts, and are not UTF-8.
 abbrev pub IsNoText : Typ → Value → Type 0
 IsNoText d m = (bs : List ℕ) × IsUtf8 (bare d) × HoldsOctets m bs × (IsText bs → ⊥)
 
@@ -121,23 +120,21 @@ LacksValue = AtUnion (λ u ids ts. message_in (entries_in u 1) ≡ None)
 abbrev pub HasUnfitValue : ExtMeaning → Typ → Value → Type 0
 HasUnfitValue s = AtUnion (λ u ids ts. (n : ℕ) × (f : Typ) × (w : Value) × (v : V.Value) × (u ≡ one_number 1 n ∷ one_message 2 w ∷ []) × (member n ids ts ≡ Some f) × ReadsValue s v f w × (Fits v f → ⊥))
 
--- A structure's fields are not so many.
+-- A structure has another number of fields than k.
 abbrev pub IsOtherCount : ℕ → Typ → Type 0
 IsOtherCount k (node (structure ns m) ts) = k ≡ count ts → ⊥
 IsOtherCount k _ = ⊥
 
--- A list stands at a structure's type, and has another number of values than it has fields.
+-- A list stands at a structure's type, and its values are not as many as the fields.
 abbrev pub HasOtherCount : Typ → Value → Type 0
 HasOtherCount d m = (l : Value) × Holds m 9 (message (slots_of l)) × IsOtherCount (length (entries_in l 0)) (bare d)
 
 -- ---- causes at a scalar's message
 
--- Why a scalar's type is not read.
-abbrev pub RefusesTypeBy : TypeRefusal → ExtMeaning → Value → Type 0
-RefusesTypeBy BadType = RefusesReadingType type_error.BadType
-RefusesTypeBy UnknownExtension = RefusesReadingType type_error.UnknownExtension
-RefusesTypeBy ExtensionRefused = RefusesReadingType type_error.ExtensionRefused
-RefusesTypeBy WireLimit = λ s t. ⊥
+-- Why a scalar's type is refused. Allocation failure is no refusal of the type.
+abbrev pub RefusesTypeBy : TypeWireError → ExtMeaning → Value → Type 0
+RefusesTypeBy type_error.OutOfMemory s t = ⊥
+RefusesTypeBy e s t = RefusesReadingType e s t
 
 -- A scalar lacks its type or its value, its value does not fit its type, or its type is not read.
 abbrev pub IsScalarCause : ScalarWireError → ExtMeaning → Value → Type 0
@@ -196,14 +193,14 @@ IsInner s d m f u = (t : Value) × IsVariant (bare d) × Holds m 12 (message (sl
 abbrev pub IsPart : ExtMeaning → Typ → Value → Typ → Value → Type 0
 IsPart s d m f u = IsElement d m f u ⊎ (IsMember d m f u ⊎ IsInner s d m f u)
 
--- A message stands so many levels within another; at none it is the same.
+-- A message stands at a depth within another; at depth 0 it is the same.
 abbrev pub IsWithin : ℕ → ExtMeaning → Typ → Value → Typ → Value → Type 0
 IsWithin zero s d m f u = (d ≡ f) × (m ≡ u)
 IsWithin (suc depth) s d m f u = (e : Typ) × (w : Value) × IsPart s d m e w × IsWithin depth s e w f u
 
 -- ---- refusals
 
--- A message has a cause, or one that stands within it has, or more than so many nest. Allocation failure has no cause.
+-- A message or one within it has a cause, or more than most messages nest. Allocation failure has no cause.
 abbrev pub RefusesReadingValue : ScalarWireError → ExtMeaning → ℕ → Typ → Value → Type 0
 RefusesReadingValue OutOfMemory s most d m = Unit {0}
 RefusesReadingValue TooDeep s most d m = most < nested m

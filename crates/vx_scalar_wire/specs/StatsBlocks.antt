@@ -14,7 +14,7 @@ use Rattle.vx_scalar_wire.specs.declared.stats.entries.Stored.{Stored}
 
 -- ---- entries
 
--- Bytes that may stand, as a field.
+-- Optional bytes, as a field.
 abbrev pub stored_field : Option (List ℕ) → Field
 stored_field None = absent
 stored_field (Some bytes) = elements bytes

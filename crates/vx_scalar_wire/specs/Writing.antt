@@ -10,9 +10,9 @@ use Rattle.vx_scalar_wire.specs.declared.error.ScalarWireError.{ScalarWireError}
 use Rattle.vx_types.specs.declared.error.TypeError.{TypeError}
 use Rattle.vx_types.specs.declared.error.TypeError.TheVariants as type_error
 use Rattle.vx_scalar_wire.specs.declared.error.ScalarWireError.TheVariants.{OutOfMemory, BadMessage, TooDeep, OutOfRange, BadScalar, BadDType, MessageTooLong}
-use Rattle.vx_scalar_wire.specs.declared.error.TypeRefusal.TheVariants.{WireLimit}
+use Rattle.vx_type_wire.specs.declared.error.TypeWireError.TheVariants.{WireLimit}
 
--- Why nothing is written: something is not shallow. Allocation failure has no cause.
+-- Why nothing is written: a type has too many levels. Allocation failure has no cause.
 abbrev pub RefusesWritingValue : ScalarWireError → Type 0 → Type 0
 RefusesWritingValue OutOfMemory Shallow = Unit {0}
 RefusesWritingValue (BadDType WireLimit) Shallow = Shallow → ⊥
@@ -50,7 +50,7 @@ abbrev pub refusal_of_scalar : TypeError → ScalarWireError
 refusal_of_scalar type_error.OutOfMemory = OutOfMemory
 refusal_of_scalar error = BadScalar
 
--- Why no bytes are written of a message: something is not shallow, or over 100 messages nest.
+-- Why no bytes are written of a message: a type has too many levels, or over 100 messages nest.
 abbrev pub RefusesWritingValueBytes : ScalarWireError → Type 0 → Value → Type 0
 RefusesWritingValueBytes TooDeep Shallow v = 100 < nested v
 RefusesWritingValueBytes error Shallow v = RefusesWritingValue error Shallow

@@ -8,29 +8,13 @@ use std::alloc::{AllocError, AllocFailed};
 use thiserror::Error;
 use vx_flat::FlatError;
 use vx_proto::ProtoError;
+use vx_type_wire::TypeWireError;
 use vx_types::TypeError;
-
-/// Why the type of a scalar is refused.
-#[derive(Clone, Copy, Debug, PartialEq, Eq, Error)]
-pub enum TypeRefusal {
-    /// The message is no type's.
-    #[error("the message is no type's")]
-    BadType,
-    /// An extension's identifier has no reader, and such extensions are not allowed.
-    #[error("an extension's identifier has no reader")]
-    UnknownExtension,
-    /// The reader of an extension's identifier does not accept it.
-    #[error("an extension's reader does not accept it")]
-    ExtensionRefused,
-    /// The type has more levels than are written.
-    #[error("the type is too deep to be written")]
-    WireLimit,
-}
 
 /// Why a message is not read as a scalar, or a scalar is not written.
 #[derive(Clone, Copy, Debug, PartialEq, Eq, Error)]
 pub enum ScalarWireError {
-    /// The allocator gave no memory.
+    /// An allocation failed.
     #[error("out of memory")]
     OutOfMemory,
     /// The bytes are no fields of the schema: 1.
@@ -39,29 +23,30 @@ pub enum ScalarWireError {
     /// Over 100 messages nest: 2.
     #[error("over 100 messages nest")]
     TooDeep,
-    /// No value stands where one is needed: a oneof without member, a union or a
-    /// variant without value, a scalar without type or value: 3.
+    /// A value or type is absent: a oneof without member, a union or a variant
+    /// without value, a scalar without type or value: 3.
     #[error("the message has no value or no type")]
     MissingKind,
-    /// The member is none that is read at the type: 4.
+    /// The oneof's member is not one that the type allows: 4.
     #[error("the member is none of the type's")]
     KindMismatch,
-    /// A number is outside its field's range or outside its type: 5.
+    /// A number is out of the range of its field or of its type: 5.
     #[error("a number is out of its field's or its type's range")]
     OutOfRange,
-    /// A structure has another number of values than of fields, no member of a union
-    /// has the tag, or a union's value does not fit the member: 6.
+    /// The values of a structure are not as many as its fields, a union has no member
+    /// with the tag, or a union's value does not fit the member: 6.
     #[error("a child is missing, too many, or fits no member")]
     BadChild,
-    /// A value does not fit its type, or bytes are no text: 7.
+    /// A value does not fit its type, or bytes are not UTF-8: 7.
     #[error("the value does not fit its type, or is no text")]
     BadScalar,
     /// A statistic's precision is over 1: 8.
     #[error("a statistic has an unknown precision")]
     BadPrecision,
-    /// The type of a scalar in it is refused: 9.
+    /// The type of the scalar, or of a scalar in it, is refused. The refusal is never
+    /// `OutOfMemory`: 9.
     #[error("a type is refused: {0}")]
-    BadDType(TypeRefusal),
+    BadDType(TypeWireError),
     /// The written message would be too long: 10.
     #[error("the written message would be too long")]
     MessageTooLong,
@@ -111,8 +96,7 @@ impl From<TypeError> for ScalarWireError {
     }
 }
 
-// The refusal of a builder as one of statistics. A builder reads no table, so none of its refusals is one of a table that is
-// read.
+// The refusal of a builder as one of statistics. A builder reads no table, so it never refuses one.
 pub(crate) fn of_builder(error: FlatError) -> ScalarWireError
     requires { IsOfBuilder error }
     ensures { result ≡ builder_error error }

@@ -11,7 +11,7 @@ mod stats;
 mod stats_kind;
 mod writing;
 
-pub use error::{ScalarWireError, TypeRefusal};
+pub use error::ScalarWireError;
 pub use kinds::{ListValueMessage, ScalarMessage, ScalarValueMessage, UnionValueMessage};
 pub use messages::{ScalarExt, ScalarValueExt};
 pub use nans::canonical_nan_sum;

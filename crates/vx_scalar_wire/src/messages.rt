@@ -1,6 +1,6 @@
-//! Values and scalars into tagged messages.
+//! Values and scalars as tagged messages, written and read.
 
-ghost use Rattle.std.specs.Prelude.{◌≡◌, ◌≤◌, ◌<◌, IfOk, IfErr, MatchResult, OnOk, IsOk, option_copied};
+ghost use Rattle.std.specs.Prelude.{◌≡◌, ◌≤◌, ◌<◌, IfOk, IfErr, IsErrOf, MatchResult, OnOk, IsOk, option_copied};
 ghost use Rattle.vx_proto.specs.Reads.{Reads};
 ghost use Rattle.vx_proto.specs.Written.{written, nested};
 ghost use Rattle.vx_type_wire.specs.Known.{ExtMeaning, IsKnown};
@@ -12,8 +12,8 @@ ghost use Rattle.vx_types.specs.Well.{IsWell};
 ghost use Rattle.vx_type_wire.specs.Session.{ext_meaning};
 ghost use Rattle.vx_scalar_wire.specs.Answers.{GivesType};
 ghost use Rattle.vx_scalar_wire.specs.Reading.{ReadsValue, ReadsScalar, ShowsValue, IsKnownValue};
-ghost use Rattle.vx_scalar_wire.specs.Refusing.{RefusesReadingValue, RefusesReadingScalar};
-ghost use Rattle.vx_scalar_wire.specs.RefusingCalls.{RefusesReadingScalarAt, RefusesReadingValueBytes};
+ghost use Rattle.vx_scalar_wire.specs.Refusing.{RefusesReadingValue};
+ghost use Rattle.vx_scalar_wire.specs.RefusingCalls.{RefusesReadingScalarAt, RefusesReadingScalarMessage, RefusesReadingValueBytes};
 ghost use Rattle.vx_scalars.specs.Seen.{seen};
 ghost use Rattle.vx_scalars.specs.Told.{Typed};
 ghost use Rattle.vx_scalar_wire.specs.ScalarMessage.{scalar_lists, value_message, scalar_message};
@@ -25,12 +25,15 @@ use crate::pb;
 use crate::reading::{read_scalar, read_value};
 use crate::writing::{scalar_slots, value_slots};
 use std::alloc::Global;
-use vx_proto::{Message, PlainMessage};
+use vx_proto::{Message, PlainMessage, nests_within};
 use vx_scalars::{Scalar, ScalarValue};
 use vx_type_wire::{DTypeExt, ExtSession, TypeWireError, pb as types};
 use vx_types::{Blob, DType, or_memory};
 
-/// A value into its message.
+// The limit of nested messages, the root counted.
+const MOST_MESSAGES: u8 = 100;
+
+/// The message of a value, written and read.
 pub trait ScalarValueExt: Sized {
     /// The message of a value, or of a null.
     fn to_proto(alloc: Global, value: Option<&Self>) -> Result<pb::ScalarValue, ScalarWireError>;
@@ -56,8 +59,8 @@ pub trait ScalarValueExt: Sized {
 }
 
 impl ScalarValueExt for ScalarValue {
-    /// The message of a value, or of a null: integers as int64 or uint64 by their
-    /// sign, floats by their own members, a decimal as the bytes of its width, a
+    /// The message of a value, or of a null: signed integers as int64 and unsigned ones
+    /// as uint64, floats by their own members, a decimal as the bytes of its width, a
     /// tuple as a list. `BadDType` exactly where the type of a variant in it has
     /// over 50 levels. What is written of a value that fits a type is read as the
     /// value at that type, by readers that know the types of its variants.
@@ -92,7 +95,8 @@ impl ScalarValueExt for ScalarValue {
         Ok(Blob::new(bytes.into_vec()))
     }
 
-    /// The value, or the null, whose message this is at a type.
+    /// The value, or the null, whose message this is at a type. `TooDeep` exactly where over
+    /// 100 messages nest, which is tested first.
     #[tactic(auto, using(crate::proofs::Complete::complete))]
     fn from_proto(
         alloc: Global,
@@ -102,6 +106,7 @@ impl ScalarValueExt for ScalarValue {
     ) -> Result<Option<ScalarValue>, ScalarWireError>
         ensures read { IfOk result (λ x. ReadsValue (ext_meaning (λ b. accepted (b.vtable, b.value)) readers.now) (seen x) (typ dtype.now) message.now) }
         ensures cause { IfErr result (λ e. RefusesReadingValue e (ext_meaning (λ b. accepted (b.vtable, b.value)) readers.now) 100 (typ dtype.now) message.now) }
+        ensures deep { 100 < nested message.now → IsErrOf result ScalarWireError.TooDeep }
         ensures complete { (v : V.Value) → nested message.now ≤ 100 → ReadsValue (ext_meaning (λ b. accepted (b.vtable, b.value)) readers.now) v (typ dtype.now) message.now
             → MatchResult result (λ x. seen x ≡ v) (λ e. e ≡ ScalarWireError.OutOfMemory) }
     {
@@ -109,6 +114,9 @@ impl ScalarValueExt for ScalarValue {
         let Some(slots) = message.slots() else {
             return Err(ScalarWireError::MissingKind);
         };
+        if !nests_within(slots, MOST_MESSAGES) {
+            return Err(ScalarWireError::TooDeep);
+        }
         let read_type = |message: &types::DType| -> Result<DType, TypeWireError>
             ensures { GivesType (ext_meaning (λ b. accepted (b.vtable, b.value)) readers.entry.now) message.now result }
         { DType::from_proto(alloc, message, readers) };
@@ -134,7 +142,7 @@ impl ScalarValueExt for ScalarValue {
     }
 }
 
-/// A scalar into its message.
+/// The message of a scalar, written and read.
 pub trait ScalarExt: Sized {
     /// The message of the scalar.
     fn to_proto(&self, alloc: Global) -> Result<pb::Scalar, ScalarWireError>;
@@ -167,7 +175,8 @@ impl ScalarExt for Scalar {
         Ok(PlainMessage::new(slots))
     }
 
-    /// The scalar whose message this is.
+    /// The scalar whose message this is. `TooDeep` exactly where over 100 messages nest, which is
+    /// tested first.
     #[tactic(auto, using(crate::proofs::Complete::complete))]
     fn from_proto(
         alloc: Global,
@@ -175,21 +184,26 @@ impl ScalarExt for Scalar {
         readers: &ExtSession,
     ) -> Result<Scalar, ScalarWireError>
         ensures read { IfOk result (λ x. ReadsScalar (ext_meaning (λ b. accepted (b.vtable, b.value)) readers.now) x message.now) }
-        ensures cause { IfErr result (λ e. RefusesReadingScalar e (ext_meaning (λ b. accepted (b.vtable, b.value)) readers.now) 100 message.now) }
+        ensures cause { IfErr result (λ e. RefusesReadingScalarMessage e (ext_meaning (λ b. accepted (b.vtable, b.value)) readers.now) message.now) }
+        ensures deep { 100 < nested message.now → IsErrOf result ScalarWireError.TooDeep }
         ensures complete { (x : Typed) → nested message.now ≤ 100 → ReadsScalar (ext_meaning (λ b. accepted (b.vtable, b.value)) readers.now) x message.now
             → MatchResult result (λ y. y ≡ x) (λ e. e ≡ ScalarWireError.OutOfMemory) }
     {
         let Some(slots) = message.slots() else {
             return Err(ScalarWireError::MissingKind);
         };
+        if !nests_within(slots, MOST_MESSAGES) {
+            return Err(ScalarWireError::TooDeep);
+        }
         let read_type = |message: &types::DType| -> Result<DType, TypeWireError>
             ensures { GivesType (ext_meaning (λ b. accepted (b.vtable, b.value)) readers.entry.now) message.now result }
         { DType::from_proto(alloc, message, readers) };
         read_scalar(alloc, slots, &read_type)
     }
 
-    /// The scalar of a type whose value's message this is. `BadScalar` also where the
-    /// value does not fit the type.
+    /// The scalar of a type whose value's message this is. `TooDeep` exactly where over 100
+    /// messages nest, which is tested first, and `BadScalar` also where the value does not fit
+    /// the type.
     #[tactic(auto, using(crate::proofs::Calls::scalars_read))]
     fn from_proto_value(
         alloc: Global,
@@ -201,6 +215,7 @@ impl ScalarExt for Scalar {
         ensures read { IfOk result (λ x. ReadsValue (ext_meaning (λ b. accepted (b.vtable, b.value)) readers.now) x.value (typ dtype.now) message.now) }
         ensures fits { IfOk result (λ x. Fits x.value (typ dtype.now)) }
         ensures cause { IfErr result (λ e. RefusesReadingScalarAt e (ext_meaning (λ b. accepted (b.vtable, b.value)) readers.now) (typ dtype.now) message.now) }
+        ensures deep { 100 < nested message.now → IsErrOf result ScalarWireError.TooDeep }
         ensures complete { (v : V.Value) → nested message.now ≤ 100 → ReadsValue (ext_meaning (λ b. accepted (b.vtable, b.value)) readers.now) v (typ dtype.now) message.now → Fits v (typ dtype.now)
             → MatchResult result (λ x. x.value ≡ v) (λ e. e ≡ ScalarWireError.OutOfMemory) }
     {

@@ -1,12 +1,12 @@
-//! Sums that are no number.
+//! Sums that are NaN.
 
 ghost use Rattle.std.specs.Prelude.{◌≡◌};
 ghost use Rattle.vx_scalars.specs.Nans.{nan_canonical};
 
 use vx_types::PValue;
 
-/// The number with which a sum is written: a NaN becomes the one of its width,
-/// with bits 7e00, 7fc00000 or 7ff8000000000000, and any other stays.
+/// The canonical form of a sum, which is what is written: each NaN becomes the one with the
+/// bits 7e00, 7fc00000 or 7ff8000000000000 of its width, and any other number stays.
 pub fn canonical_nan_sum(sum: PValue) -> PValue
     ensures { result ≡ nan_canonical sum }
 {

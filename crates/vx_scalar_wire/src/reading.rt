@@ -1,4 +1,4 @@
-//! Values out of plain values of messages.
+//! Values read from plain values of messages.
 
 pub mod leaves;
 pub mod numbers;
@@ -18,7 +18,7 @@ ghost use Rattle.vx_scalar_wire.specs.Reading.{ReadsValue, ReadsScalar};
 ghost use Rattle.vx_scalar_wire.specs.Refusing.{RefusesReadingValue, RefusesReadingScalar};
 ghost use Rattle.vx_scalar_wire.specs.ScalarMessage.{scalar_lists};
 
-use crate::error::{ScalarWireError, TypeRefusal};
+use crate::error::ScalarWireError;
 use crate::reading::leaves::octets_value;
 use crate::reading::numbers::number_value;
 use std::alloc::Global;
@@ -29,7 +29,7 @@ use vx_scalars::{Scalar, ScalarValue, ValueRef, Values, VariantRef, bare_dtype};
 use vx_type_wire::{TypeWireError, pb};
 use vx_types::{DType, StructFields, UnionVariants, or_memory};
 
-// At most so many levels of values are read: each nests two messages.
+// The limit of levels of a value in a message. Each level nests two messages.
 const MOST_LEVELS: u8 = 50;
 
 /// The value whose message has this plain value, at a type; `None` is a null.
@@ -65,8 +65,8 @@ pub fn read_scalar<F: Fn(&pb::DType) -> Result<DType, TypeWireError>>(
     scalar_in(alloc, slots, types, MOST_LEVELS)
 }
 
-// The value whose message has this plain value, at a type, where it has at most
-// so many levels; `None` is a null.
+// The value whose message has this plain value, at a type, of at most `left` levels;
+// `None` is a null.
 #[cycle(reading)]
 fn value_in<F: Fn(&pb::DType) -> Result<DType, TypeWireError>>(
     alloc: Global,
@@ -104,7 +104,7 @@ fn member_in(slots: &[Entries]) -> Option<&Entry>
     }
 }
 
-// What the message of a member is read as: a list, a union's value or a variant.
+// The value of a member that holds a message: a list, a union's value or a variant.
 #[cycle(reading)]
 fn message_value<F: Fn(&pb::DType) -> Result<DType, TypeWireError>>(
     alloc: Global,
@@ -145,8 +145,8 @@ fn list_value<F: Fn(&pb::DType) -> Result<DType, TypeWireError>>(
     Ok(ScalarValue::Tuple(values))
 }
 
-// The parts of a list at a type that is no extension: elements, entries, or one
-// value a field.
+// The parts of a list at a type that is no extension: its elements, a map's entries,
+// or one value for each field of a structure.
 #[cycle(reading)]
 fn parts_of<F: Fn(&pb::DType) -> Result<DType, TypeWireError>>(
     alloc: Global,
@@ -293,8 +293,7 @@ fn variant_value<F: Fn(&pb::DType) -> Result<DType, TypeWireError>>(
     Ok(ScalarValue::Variant(VariantRef::new(alloc, scalar)?))
 }
 
-// The scalar whose message has this plain value, where its value has at most so
-// many levels.
+// The scalar whose message has this plain value, its value of at most `left` levels.
 #[cycle(reading)]
 fn scalar_in<F: Fn(&pb::DType) -> Result<DType, TypeWireError>>(
     alloc: Global,
@@ -339,23 +338,12 @@ fn type_in<F: Fn(&pb::DType) -> Result<DType, TypeWireError>>(
     }
 }
 
-// The refusal of a scalar whose type is refused so.
+// The refusal of a scalar whose type is refused with this error.
 fn type_refusal(error: TypeWireError) -> ScalarWireError
     ensures { (s : ExtMeaning) (t : Value) → RefusesReadingType error s t → RefusesScalarType result s t }
 {
     match error {
         TypeWireError::OutOfMemory => ScalarWireError::OutOfMemory,
-        TypeWireError::UnknownExtension => {
-            ScalarWireError::BadDType(TypeRefusal::UnknownExtension)
-        }
-        TypeWireError::ExtensionRefused => {
-            ScalarWireError::BadDType(TypeRefusal::ExtensionRefused)
-        }
-        TypeWireError::BadType
-        | TypeWireError::BadTable
-        | TypeWireError::TableLimit
-        | TypeWireError::BadMessage
-        | TypeWireError::TooDeep
-        | TypeWireError::WireLimit => ScalarWireError::BadDType(TypeRefusal::BadType),
+        refusal => ScalarWireError::BadDType(refusal),
     }
 }

@@ -1,4 +1,4 @@
-//! Statistics out of tables, and into them.
+//! Statistics read from tables and written as tables.
 
 ghost use Rattle.std.specs.Prelude.{◌≡◌, ◌<◌, ◌^◌, true, false, length, IfOk, IfErr, IsOk, OnOk, OnErr, MatchResult};
 ghost use Rattle.vx_flat.specs.Building.{Takes, Written, Keeps, IsTooLong};
@@ -26,7 +26,7 @@ use vx_flat::{Builder, LinkKind, View};
 use vx_scalars::{Stat, StatsSet};
 use vx_types::DType;
 
-/// Statistics out of a table, and into one.
+/// The table of statistics, read and written.
 pub trait StatsSetExt: Sized {
     /// The statistics that a table shows, of arrays of a type.
     fn from_flatbuffer(

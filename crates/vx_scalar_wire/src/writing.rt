@@ -17,7 +17,7 @@ ghost use Rattle.vx_scalar_wire.specs.Shallow.{IsShallow, AreShallow, IsShallowS
 ghost use Rattle.vx_scalar_wire.specs.Typed.{IsTyped};
 ghost use Rattle.vx_scalar_wire.specs.Writing.{Writes};
 
-use crate::error::{ScalarWireError, TypeRefusal};
+use crate::error::ScalarWireError;
 use std::alloc::Global;
 use vx_proto::{Element, Entries, Message, ProtoError, copied, flag, one, zigzag};
 use vx_scalars::{DecimalValue, Scalar, ScalarValue};
@@ -86,7 +86,7 @@ fn type_slots(alloc: Global, dtype: &DType) -> Result<Vec<Entries>, ScalarWireEr
 {
     match dtype.to_proto(alloc) {
         Ok(message) => Ok(message.to_value(alloc)?),
-        Err(TypeWireError::WireLimit) => Err(ScalarWireError::BadDType(TypeRefusal::WireLimit)),
+        Err(TypeWireError::WireLimit) => Err(ScalarWireError::BadDType(TypeWireError::WireLimit)),
         Err(_) => Err(ScalarWireError::OutOfMemory),
     }
 }

@@ -2,8 +2,9 @@
 
 use std::alloc::Global;
 use vx_proto::Message;
-use vx_scalar_wire::{ScalarExt, ScalarValueExt, ScalarWireError, TypeRefusal, canonical_nan_sum};
+use vx_scalar_wire::{ScalarExt, ScalarValueExt, ScalarWireError, canonical_nan_sum};
 use vx_scalars::{DecimalValue, Scalar, ScalarValue, ValueRef, Values, VariantRef};
+use vx_type_wire::{ExtSession, TypeWireError};
 use vx_types::{Blob, DType, Name, Nullability, PType, PValue, TypeError};
 
 fn number(value: i32) -> ScalarValue {
@@ -126,14 +127,14 @@ fn floats_bytes_and_variants_have_their_bytes(rt: HostRuntime) {
     }
 }
 
-// A tuple round another value.
+// A tuple around another value.
 fn wrapped(alloc: Global, inner: Option<ScalarValue>) -> Result<Option<ScalarValue>, TypeError> {
     let mut values = Values::new(alloc);
     values.push(inner)?;
     Ok(Some(ScalarValue::Tuple(values)))
 }
 
-// So many tuples, each in the next, round an innermost one.
+// `count` tuples, each in the next, around an innermost one.
 fn nested(alloc: Global, count: usize, inner: Values) -> Result<Option<ScalarValue>, TypeError> {
     let mut value = Some(ScalarValue::Tuple(inner));
     for _ in 1..count {
@@ -157,13 +158,13 @@ fn is_too_deep(alloc: Global, value: &Option<ScalarValue>) -> bool {
     )
 }
 
-// Whether so many tuples are refused for their depth.
+// Whether `count` tuples are refused for their depth.
 fn are_too_deep(alloc: Global, count: usize, inner: Values) -> Result<bool, TypeError> {
     let value = nested(alloc, count, inner)?;
     Ok(is_too_deep(alloc, &value))
 }
 
-// The same round a null.
+// The same around a null.
 fn are_too_deep_round_null(alloc: Global, count: usize) -> Result<bool, TypeError> {
     let inner = one_null(alloc)?;
     are_too_deep(alloc, count, inner)
@@ -177,6 +178,32 @@ fn a_hundred_messages_nest(rt: HostRuntime) {
     assert!(rt; are_too_deep(alloc, 51, Values::new(alloc)) == Ok(true));
 }
 
+// The refusal of the message of `count` nested tuples at a type of numbers.
+fn refusal_of_tuples(alloc: Global, count: usize) -> Result<Option<ScalarWireError>, TypeError> {
+    let value = nested(alloc, count, Values::new(alloc))?;
+    let numbers = DType::Primitive(PType::I32, Nullability::NonNullable);
+    Ok(read_again(alloc, value.as_ref(), &numbers).err())
+}
+
+// The value of a message that is made in memory, at a type.
+fn read_again(
+    alloc: Global,
+    value: Option<&ScalarValue>,
+    dtype: &DType,
+) -> Result<Option<ScalarValue>, ScalarWireError> {
+    let message = ScalarValue::to_proto(alloc, value)?;
+    ScalarValue::from_proto(alloc, &message, dtype, &ExtSession::new(alloc))
+}
+
+// The depth of a message is tested before its members.
+#[test]
+fn a_hundred_messages_nest_in_memory(rt: HostRuntime) {
+    let alloc = rt.alloc();
+    let mismatch = Some(ScalarWireError::KindMismatch);
+    assert!(rt; refusal_of_tuples(alloc, 50) == Ok(mismatch));
+    assert!(rt; refusal_of_tuples(alloc, 51) == Ok(Some(ScalarWireError::TooDeep)));
+}
+
 // A variant of a type and a value.
 fn variant(
     alloc: Global,
@@ -187,7 +214,7 @@ fn variant(
     Ok(Some(ScalarValue::Variant(VariantRef::new(alloc, scalar)?)))
 }
 
-// So many variants, each in the next, over the number 42.
+// `count` variants, each in the next, around the number 42.
 fn variants(alloc: Global, count: usize) -> Result<Option<ScalarValue>, TypeError> {
     let numbers = DType::Primitive(PType::I32, Nullability::NonNullable);
     let mut value = variant(alloc, numbers, Some(number(42)))?;
@@ -197,7 +224,7 @@ fn variants(alloc: Global, count: usize) -> Result<Option<ScalarValue>, TypeErro
     Ok(value)
 }
 
-// Whether so many variants are refused for their depth.
+// Whether `count` variants are refused for their depth.
 fn are_variants_too_deep(alloc: Global, count: usize) -> Result<bool, TypeError> {
     let value = variants(alloc, count)?;
     Ok(is_too_deep(alloc, &value))
@@ -266,7 +293,7 @@ fn is_text(alloc: Global, error: ScalarWireError, text: &str) -> bool {
     }
 }
 
-// What each refusal is printed as, the refusal of a type after the words that one is refused.
+// Each refusal and its text. The text of a refused type has the type's refusal at its end.
 const TEXTS: [(ScalarWireError, &str); 14] = [
     (ScalarWireError::OutOfMemory, "out of memory"),
     (
@@ -299,20 +326,20 @@ const TEXTS: [(ScalarWireError, &str); 14] = [
         "a statistic has an unknown precision",
     ),
     (
-        ScalarWireError::BadDType(TypeRefusal::BadType),
-        "a type is refused: the message is no type's",
+        ScalarWireError::BadDType(TypeWireError::BadType),
+        "a type is refused: the table or message is no type's",
     ),
     (
-        ScalarWireError::BadDType(TypeRefusal::UnknownExtension),
+        ScalarWireError::BadDType(TypeWireError::UnknownExtension),
         "a type is refused: an extension's identifier has no reader",
     ),
     (
-        ScalarWireError::BadDType(TypeRefusal::ExtensionRefused),
+        ScalarWireError::BadDType(TypeWireError::ExtensionRefused),
         "a type is refused: an extension's reader does not accept it",
     ),
     (
-        ScalarWireError::BadDType(TypeRefusal::WireLimit),
-        "a type is refused: the type is too deep to be written",
+        ScalarWireError::BadDType(TypeWireError::WireLimit),
+        "a type is refused: the type is too deep or too large to be written",
     ),
     (
         ScalarWireError::MessageTooLong,

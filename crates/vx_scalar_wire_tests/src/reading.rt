@@ -3,9 +3,9 @@
 use std::alloc::{AllocError, Global};
 use std::process::Abort;
 use vx_proto::Message;
-use vx_scalar_wire::{ScalarExt, ScalarValueExt, ScalarWireError, TypeRefusal, pb};
+use vx_scalar_wire::{ScalarExt, ScalarValueExt, ScalarWireError, pb};
 use vx_scalars::{DecimalValue, Scalar, ScalarValue};
-use vx_type_wire::ExtSession;
+use vx_type_wire::{ExtSession, TypeWireError};
 use vx_types::{
     Blob, DType, DTypes, DecimalDType, ExtDType, Id, MapDType, Name, Names, Nullability, PType,
     PValue, StructFields, TypeError, TypeIds, TypeRef, UnionVariants,
@@ -458,7 +458,7 @@ const VARIANTS: [(&[u8], usize, Answer); 4] = [
     (
         &[0x62, 0x06, 0x0a, 0x00, 0x12, 0x02, 0x08, 0x00],
         14,
-        Answer::Refused(ScalarWireError::BadDType(TypeRefusal::BadType)),
+        Answer::Refused(ScalarWireError::BadDType(TypeWireError::BadType)),
     ),
 ];
 
@@ -510,7 +510,7 @@ fn a_scalar_is_read_at_its_type(rt: HostRuntime) {
     assert!(rt; bare == Answer::Refused(ScalarWireError::MissingKind));
 }
 
-// So many lists in one another, as a type.
+// A list type of `count` levels of lists.
 fn deep_type(alloc: Global, count: usize) -> Result<DType, TypeError> {
     let mut dtype = numbers(PType::I32);
     for _ in 0..count {
@@ -530,7 +530,7 @@ fn push_length(bytes: &mut Vec<u8>, length: usize) -> Result<(), AllocError> {
     Ok(())
 }
 
-// One more message round another, of under 16,384 bytes: its key, its length, and it.
+// A message around another of under 16,384 bytes: its key, its length, and the other.
 fn around(alloc: Global, key: u8, inner: &[u8]) -> Result<Vec<u8>, AllocError> {
     let mut bytes = Vec::from_slice(alloc, &[key])?;
     push_length(&mut bytes, inner.len())?;
@@ -538,13 +538,13 @@ fn around(alloc: Global, key: u8, inner: &[u8]) -> Result<Vec<u8>, AllocError> {
     Ok(bytes)
 }
 
-// One more list round a list.
+// A list around a list.
 fn list_around(alloc: Global, inner: &[u8]) -> Result<Vec<u8>, AllocError> {
     let value = around(alloc, 0x0a, inner)?;
     around(alloc, 0x4a, &value)
 }
 
-// The bytes of so many lists in one another, round a list of these elements.
+// The bytes of `count` nested lists, the innermost with these elements.
 fn deep_lists(alloc: Global, count: usize, inner: &[u8]) -> Result<Vec<u8>, AllocError> {
     let mut bytes = around(alloc, 0x4a, inner)?;
     for _ in 1..count {
@@ -553,7 +553,7 @@ fn deep_lists(alloc: Global, count: usize, inner: &[u8]) -> Result<Vec<u8>, Allo
     Ok(bytes)
 }
 
-// What these bytes are read as at so many lists.
+// The value of these bytes at a type of `count` nested lists.
 fn read_deep(alloc: Global, bytes: &[u8], count: usize) -> Answer {
     match deep_type(alloc, count) {
         Ok(dtype) => read_at(alloc, bytes, &dtype),
@@ -568,7 +568,7 @@ fn read_lists(alloc: Global, count: usize, inner: &[u8]) -> Answer {
     }
 }
 
-// A variant of a type of these bytes round a value of those.
+// A variant of the type of these bytes around the value of those.
 fn variant_around(alloc: Global, dtype: &[u8], inner: &[u8]) -> Result<Vec<u8>, AllocError> {
     let value = around(alloc, 0x12, inner)?;
     let mut bytes = Vec::from_slice(alloc, dtype)?;
@@ -576,7 +576,7 @@ fn variant_around(alloc: Global, dtype: &[u8], inner: &[u8]) -> Result<Vec<u8>, 
     around(alloc, 0x62, &bytes)
 }
 
-// The bytes of so many variants in one another, the innermost an I32 of these bytes.
+// The bytes of `count` nested variants, the innermost an I32 of these bytes.
 fn deep_variants(alloc: Global, count: usize, inner: &[u8]) -> Result<Vec<u8>, AllocError> {
     let mut bytes = variant_around(alloc, &[0x0a, 0x04, 0x1a, 0x02, 0x08, 0x06], inner)?;
     for _ in 1..count {

@@ -10,6 +10,7 @@ use Rattle.vx_proto.specs.Lawful.{is_lawful}
 use Rattle.vx_proto.specs.Reads.{Reads, Cause}
 use Rattle.vx_proto.specs.Repeated.{members, messages}
 use Rattle.vx_proto.specs.Value.{Entry, Value, octets, one_number, one_octets, one_message}
+use Rattle.vx_proto.specs.Written as nesting
 use Rattle.vx_types.specs.Kind.{Kind, null, boolean, primitive, decimal, utf8, binary, list, fixed_size_list}
 use Rattle.vx_types.specs.Kind.{structure, union, map, variant, extension}
 use Rattle.vx_types.specs.Typ.{Typ, IsType}
@@ -114,7 +115,7 @@ parts_below (node k ts) = parts_of k (type_messages ts)
 
 -- ---- what shows a type
 
--- At most so many levels of a type are written as a message, and so are read: each nests two messages, and 100 nest.
+-- The limit of levels of a type in a message: each level nests two messages, and at most 100 nest.
 abbrev pub most_levels : ℕ
 most_levels = 50
 
@@ -128,13 +129,15 @@ pub record ShowsMessage (bytes : List ℕ) (t : Typ) : Type 0 where
   pub is_type : IsType t
   pub read : Reads type_lists 0 bytes (type_message t)
 
--- The plain value is that of no type's message, but of a type of more levels.
+-- The plain value is that of no type's message.
 abbrev pub IsNoMessage : Value → Type 0
-IsNoMessage v = (t : Typ) → levels t ≤ most_levels → IsMessageOf v t → ⊥
+IsNoMessage v = (t : Typ) → IsMessageOf v t → ⊥
 
--- Why a plain value is read as no type under a session. Allocation failure has no cause.
+-- Why a plain value is read as no type under a session: over 100 messages nest, it is no type's, or an extension in the type
+-- is not accepted. Allocation failure has no cause.
 abbrev pub RefusesReadingType : TypeWireError → ExtMeaning → Value → Type 0
 RefusesReadingType error.OutOfMemory s v = Unit {0}
+RefusesReadingType error.TooDeep s v = 100 < nesting.nested v
 RefusesReadingType error.BadType s v = IsNoMessage v
 RefusesReadingType error.UnknownExtension s v = ShowsNotKnown (IsMessageOf v) error.UnknownExtension s
 RefusesReadingType error.ExtensionRefused s v = ShowsNotKnown (IsMessageOf v) error.ExtensionRefused s

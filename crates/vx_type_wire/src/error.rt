@@ -12,36 +12,37 @@ use vx_types::TypeError;
 /// Why a message is not read as a type, or a type is not written.
 #[derive(Clone, Copy, Debug, PartialEq, Eq, Error)]
 pub enum TypeWireError {
-    /// The allocator gave no memory.
+    /// An allocation failed.
     #[error("out of memory")]
     OutOfMemory,
-    /// The message shows no table of the kind.
+    /// The message shows no table of the kind: 1.
     #[error("the message is no table of a type")]
     BadTable,
-    /// The message nests too deep or unfolds to too much.
+    /// The message passes a limit of nesting, tables or bytes: 2.
     #[error("the message nests too deep or unfolds to too many tables or bytes")]
     TableLimit,
-    /// The bytes are no fields of a type's message: 3.
+    /// The bytes are no fields of the schema of types: 3.
     #[error("the bytes are no message of a type")]
     BadMessage,
     /// Over 100 messages nest: 4.
     #[error("over 100 messages nest")]
     TooDeep,
-    /// The table is no type's: its union has no member or one that is not known,
-    /// a part is absent, a number is no code or out of range, lists of parts are
-    /// not of one length, a tag stands twice, or a decimal has no digit or too many.
+    /// The table or message is no type's: its union or oneof has no member or an
+    /// unknown one, a part is absent, a number is no code or out of range, lists of
+    /// parts differ in length, a tag occurs twice, or a decimal's precision is 0 or
+    /// over 76: 5.
     #[error("the table or message is no type's")]
     BadType,
-    /// An extension's identifier has no reader, and such extensions are not
-    /// allowed.
+    /// An extension has no reader, and extensions without a reader are not
+    /// allowed: 6.
     #[error("an extension's identifier has no reader")]
     UnknownExtension,
     /// The reader of an extension's identifier does not accept its metadata and
-    /// storage.
+    /// storage: 7.
     #[error("an extension's reader does not accept it")]
     ExtensionRefused,
-    /// The type has more levels than are written, its table would pass a limit of
-    /// messages, or the message has no room for it.
+    /// The type has over 32 levels as a table or over 50 as a message, its table
+    /// would pass a limit of messages, or the message would be too long: 8.
     #[error("the type is too deep or too large to be written")]
     WireLimit,
 }

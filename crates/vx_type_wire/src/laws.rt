@@ -1,4 +1,4 @@
-//! What holds of the tables of types, for the contracts of other crates.
+//! Laws about the tables of types, for proofs in other crates.
 
 ghost use Rattle.std.specs.Prelude.{◌≡◌, List, ℕ};
 ghost use Rattle.vx_types.specs.Typ.{Typ, IsType};
@@ -7,7 +7,7 @@ ghost use Rattle.vx_type_wire.specs.Known.{ExtMeaning, IsKnown, IsNotKnown};
 ghost use Rattle.vx_type_wire.specs.Shown.{ShowsType};
 ghost use Rattle.vx_type_wire.specs.TypeTable.{type_table};
 
-/// A table is of one type at most, and a message shows one type at most.
+/// A table is of at most one type, and a message shows at most one type.
 pub fn one_type()
     ensures table { (t u : Typ) → IsType t → IsType u → type_table t ≡ type_table u → t ≡ u }
     ensures message { (m : List ℕ) (t u : Typ) → ShowsType m t → ShowsType m u → t ≡ u }

@@ -1,7 +1,7 @@
-//! Readers of extension types, borrowed: what a plugin is told of a session's extensions.
+//! Borrowed readers of extension types: what a plugin sees of a session's extensions.
 //!
-//! A session owns its readers in boxes, and a method of a boxed trait cannot take such a session. So it lends them: the same
-//! readers as trait objects, under the same identifiers.
+//! A session owns its readers in boxes, and a method of a boxed trait cannot take a value that holds boxes. It takes the
+//! same readers as borrowed trait objects, under the same identifiers.
 
 ghost use Rattle.std.specs.Prelude.{◌≡◌};
 ghost use Rattle.vx_types.specs.Seen.{typ};
@@ -10,26 +10,26 @@ ghost use Rattle.vx_type_wire.specs.Borrowed.{borrowed_meaning, accepts_by};
 use crate::readers::ExtPlugin;
 use vx_types::{DType, Id};
 
-/// A reader that is borrowed, under its identifier.
+/// A borrowed reader and its identifier.
 #[derive(Drop)]
 pub struct BorrowedReader<'a, R> {
     pub(crate) id: &'a Id,
     pub(crate) reader: R,
 }
 
-/// Readers of extensions that are borrowed, and whether extensions without one are allowed.
+/// Borrowed extension readers, and whether extensions without a reader are allowed.
 #[derive(Drop)]
 pub struct ReadersOf<'a, R> {
     pub(crate) entries: Vec<BorrowedReader<'a, R>>,
     pub(crate) unknown: bool,
 }
 
-/// The readers of a session, borrowed as what each is to the caller: what a boxed plugin may be passed.
+/// The readers of a session as borrowed trait objects, which a boxed plugin can take.
 pub type Readers<'a> = ReadersOf<'a, &'a dyn ExtPlugin>;
 
 impl<'a> ReadersOf<'a, &'a dyn ExtPlugin> {
-    /// Whether an extension of this identifier may have this metadata and this storage: its reader accepts it, or it has
-    /// none and extensions without a reader are allowed.
+    /// Whether an extension with this identifier, metadata and storage is accepted: by its reader, or without one
+    /// where extensions without a reader are allowed.
     pub fn accepts(&self, id: &Id, metadata: &[u8], storage: &DType) -> bool
         ensures { result ≡ accepts_by (borrowed_meaning (λ r. accepted r.now) self.now) id.now metadata.now (typ storage.now) }
     {

@@ -318,7 +318,7 @@ fn extensions_by_their_readers(rt: HostRuntime) {
     assert!(rt; judgement(alloc, &[("x", false), ("x", true)]) == Ok(None));
 }
 
-// A list type of so many levels, or of memory that is wanted.
+// A list type of this number of levels.
 fn nested(alloc: Global, levels: u32) -> Result<DType, TypeError> {
     let mut dtype = DType::Null;
     for _ in 1..levels {
@@ -333,7 +333,7 @@ fn comes_back(alloc: Global, dtype: &DType) -> Result<bool, TypeWireError> {
     Ok(is_read(alloc, dtype, bytes.as_slice()))
 }
 
-// The same of a list type of so many levels.
+// The same of a list type of this number of levels.
 fn lists_come_back(alloc: Global, levels: u32) -> Result<bool, TypeWireError> {
     let dtype = nested(alloc, levels)?;
     comes_back(alloc, &dtype)

@@ -375,20 +375,20 @@ fn level_of(level: u8) -> [u8; 24] {
     ]
 }
 
-// The type of nulls below so many lists, and its table without fields.
+// The type of nulls below this number of lists, and its table without fields.
 fn nulls_below(lists: u8) -> [u8; 16] {
     let [a, b] = (24 + 24 * u16::from(lists % 64)).to_le_bytes();
     let [c, d] = (20 + 24 * u16::from(lists % 64)).to_le_bytes();
     [a, b, 0, 0, 1, 0, 0, 0, 4, 0, 0, 0, c, d, 0, 0]
 }
 
-// A table that has no member, below so many lists.
+// A table that has no member, below this number of lists.
 fn bare_below(lists: u8) -> [u8; 4] {
     let [a, b] = (8 + 24 * u16::from(lists % 64)).to_le_bytes();
     [a, b, 0, 0]
 }
 
-// Lists in lists, so many of them, round what these bytes show: each table stands in the one before it.
+// Nested lists around what these bytes show: each table stands in the one before it.
 fn nested(alloc: Global, lists: u8, below: &[u8]) -> Result<Vec<u8>, AllocError> {
     let mut message = Vec::from_slice(alloc, &FRONT)?;
     for level in 0..lists {
@@ -398,7 +398,7 @@ fn nested(alloc: Global, lists: u8, below: &[u8]) -> Result<Vec<u8>, AllocError>
     Ok(message)
 }
 
-// Why so many lists round what these bytes show are no type, if they are none.
+// The refusal of nested lists around what these bytes show, if any.
 fn nested_refusal(
     alloc: Global,
     lists: u8,

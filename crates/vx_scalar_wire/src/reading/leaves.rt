@@ -1,4 +1,4 @@
-//! What the octets of a member are read as.
+//! Values read from the octets of a member.
 
 ghost use Rattle.std.specs.Prelude.{◌≡◌, ◌≤◌, ◌⊎◌, ℕ, [], ◌∷◌, false, length, take, IfOk, IfErr};
 ghost use Rattle.vx_proto.specs.Value.{octets as some_octets};
@@ -19,8 +19,8 @@ use std::alloc::Global;
 use vx_scalars::{DecimalValue, ScalarValue, bare_dtype};
 use vx_types::{Blob, DType, Name, or_memory};
 
-/// What a string or bytes are read as at a type: a text where they are one, or
-/// bytes; bytes as a decimal's integer, too, by how many they are.
+/// The value of a string or of bytes at a type: a text where they are UTF-8, bytes, or
+/// a decimal, whose width is their length.
 pub fn octets_value(
     alloc: Global,
     number: u32,
@@ -47,7 +47,7 @@ pub fn octets_value(
     }
 }
 
-// The text that bytes are.
+// Bytes as a text, where they are UTF-8.
 fn text_of(alloc: Global, bytes: &[u8]) -> Result<ScalarValue, ScalarWireError>
     ensures same { IfOk result (λ x. value_of x ≡ V.lone (V.utf8 bytes.now)) }
     ensures is_text { IfOk result (λ _. IsText bytes.now) }
@@ -59,7 +59,7 @@ fn text_of(alloc: Global, bytes: &[u8]) -> Result<ScalarValue, ScalarWireError>
     }
 }
 
-// The decimal's integer that has these bytes, the lowest first.
+// Little-endian bytes as a decimal's integer.
 fn decimal_of(bytes: &[u8]) -> Result<DecimalValue, ScalarWireError>
     ensures same { IfOk result (λ x. decimal_bytes (decimal_view x) ≡ bytes.now) }
     ensures fits { IfOk result (λ x. IsDecimalInRange (decimal_view x)) }
@@ -77,7 +77,7 @@ fn decimal_of(bytes: &[u8]) -> Result<DecimalValue, ScalarWireError>
     Ok(decimal)
 }
 
-// So many bytes from the front.
+// The first `N` bytes.
 fn first<const N: usize>(bytes: &[u8]) -> [u8; N]
     requires { N ≤ length bytes.now }
     ensures { result ≡ take N bytes.now }

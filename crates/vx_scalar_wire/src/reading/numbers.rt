@@ -1,4 +1,4 @@
-//! What the number of a member is read as.
+//! Values read from the number of a member.
 
 ghost use Rattle.std.specs.Prelude.{◌≡◌, ◌<◌, ℕ, IfOk, IfErr, Some};
 ghost use Rattle.vx_types.specs.Fits.{IsOf, bare};
@@ -22,8 +22,8 @@ use vx_proto::unzigzag;
 use vx_scalars::{ScalarValue, bare_dtype};
 use vx_types::{DType, PType, PValue};
 
-/// What the number of a member is read as at a type: null, a flag, an integer or
-/// a float by its bits.
+/// The value of a member's number at a type: null, a flag, an integer, or a float by
+/// its bits.
 pub fn number_value(
     number: u32,
     value: u64,
@@ -56,7 +56,7 @@ fn flag_value(value: u64, dtype: &DType) -> Result<ScalarValue, ScalarWireError>
     }
 }
 
-// The kind of the numbers of a type.
+// The primitive type of a type.
 #[tactic(auto, using(crate::proofs::Leaves::not_numbers))]
 fn kind_at(dtype: &DType) -> Result<PType, ScalarWireError>
     ensures ok { IfOk result (λ p. IsOf p (bare (typ dtype.now))) }
@@ -68,7 +68,7 @@ fn kind_at(dtype: &DType) -> Result<PType, ScalarWireError>
     }
 }
 
-// An integer that stands as one with sign.
+// A number from a signed integer.
 fn signed(value: i64, dtype: &DType) -> Result<PValue, ScalarWireError>
     ensures { (s : ExtMeaning) (most : ℕ) → GivesValue (λ n. V.lone (V.number n)) result s most (typ dtype.now) (lone_member 3 (a_number (zigzag value))) }
 {
@@ -78,7 +78,7 @@ fn signed(value: i64, dtype: &DType) -> Result<PValue, ScalarWireError>
     }
 }
 
-// An integer that stands as one without sign, or the bits of a float of 16.
+// A number from an unsigned integer, which may be the bits of an F16.
 fn unsigned(value: u64, dtype: &DType) -> Result<PValue, ScalarWireError>
     ensures { (s : ExtMeaning) (most : ℕ) → GivesValue (λ n. V.lone (V.number n)) result s most (typ dtype.now) (lone_member 4 (a_number value)) }
 {
@@ -104,7 +104,7 @@ fn half(value: u64, dtype: &DType) -> Result<PValue, ScalarWireError>
     }
 }
 
-// The float of 16 bits that has these.
+// The F16 with these bits, `OutOfRange` where there are more than 16.
 fn half_of(value: u64) -> Result<PValue, ScalarWireError>
     ensures same { IfOk result (λ n. n ≡ PValue.F16 value) }
     ensures fits { IfOk result (λ n. IsInRange n) }
@@ -129,7 +129,7 @@ fn single(value: u64, dtype: &DType) -> Result<PValue, ScalarWireError>
     }
 }
 
-// The float of 32 bits that has these.
+// The F32 with these bits, `OutOfRange` where there are more than 32.
 fn single_of(value: u64) -> Result<PValue, ScalarWireError>
     ensures same { IfOk result (λ n. n ≡ PValue.F32 value) }
     ensures fits { IfOk result (λ n. IsInRange n) }
@@ -154,7 +154,7 @@ fn double(value: u64, dtype: &DType) -> Result<PValue, ScalarWireError>
     }
 }
 
-// An integer as a number of a kind.
+// An integer as a number of a primitive type.
 #[tactic(auto, using(crate::proofs::Leaves::integers))]
 fn integer(value: i128, kind: PType) -> Result<PValue, ScalarWireError>
     ensures kind { IfOk result (λ n. kind_of n ≡ kind) }

@@ -22,7 +22,7 @@ pub struct Stored {
     pub sum: Option<Blob>,
 }
 
-/// The entries of the table of a set, whose values are stored so.
+/// The entries of the table of a set. `stored` has its values as bytes.
 pub fn entries_of(stats: &StatsSet, stored: &Stored) -> [BlockField; 11]
     ensures entries { result ≡ table_entries stats.now stored.now }
     ensures null_count { IsStorableCount stats.now.null_count }
@@ -44,7 +44,7 @@ pub fn entries_of(stats: &StatsSet, stored: &Stored) -> [BlockField; 11]
     ]
 }
 
-// The entry of bytes that may stand.
+// The entry of optional bytes.
 fn vector_entry_of(bytes: &Option<Blob>) -> BlockField
     ensures { result ≡ vector_entry (stored_field bytes.now) }
 {
@@ -64,7 +64,7 @@ fn precision_entry(told: Precision<&ScalarValue>) -> BlockField
     }
 }
 
-// The entry of a flag, where what is told is one, and exact.
+// The entry of an exact flag.
 fn flag_entry_of(told: Precision<&ScalarValue>) -> BlockField
     ensures { result ≡ flag_entry (told_of (borrowed told.entry)) }
 {
@@ -80,7 +80,7 @@ fn flag_entry_of(told: Precision<&ScalarValue>) -> BlockField
     }
 }
 
-// The entry of a count, where what is told is one, and exact.
+// The entry of an exact count.
 fn count_entry_of(told: Precision<&ScalarValue>) -> BlockField
     ensures entry { result ≡ count_entry (told_of (borrowed told.entry)) }
     ensures storable { IsStorableCount (told_of (borrowed told.entry)) }

@@ -1,4 +1,4 @@
-//! Statistics out of a view of their table.
+//! Statistics read from a view of their table.
 
 ghost use Rattle.std.specs.Prelude.{◌≡◌, IfOk, IfErr, MatchOption, Some};
 ghost use Rattle.vx_flat.specs.Parts.{IsBytes, IsNumber, IsOptional};
@@ -20,7 +20,7 @@ use vx_scalars::{Precision, Scalar, ScalarValue, Stat};
 use vx_type_wire::ExtSession;
 use vx_types::{DType, PValue};
 
-/// What a table tells of a statistic, of arrays of a type.
+/// The value of a statistic in a table, for arrays of a type.
 pub fn read_stat(
     alloc: Global,
     view: &View<'_>,

@@ -15,7 +15,7 @@ use std::alloc::Global;
 use vx_scalars::{Precision, ScalarValue};
 use vx_types::Blob;
 
-/// The bytes of a value that is told, exactly or not.
+/// The bytes of a statistic's value, exact or a bound.
 pub fn value_bytes(
     alloc: Global,
     told: Precision<&ScalarValue>,
@@ -35,8 +35,7 @@ pub fn value_bytes(
     }
 }
 
-/// The bytes of a sum, where it is exact. One that is no number becomes the NaN of its
-/// width.
+/// The bytes of an exact sum. A NaN becomes the canonical one of its width.
 pub fn sum_bytes(
     alloc: Global,
     told: Precision<&ScalarValue>,

@@ -12,7 +12,7 @@ use vx_flat::{BlockVector, Builder, FlatError, LinkKind};
 use vx_scalars::StatsSet;
 use vx_types::Blob;
 
-/// Writes the blocks of the table of a set, whose values are stored so.
+/// Writes the blocks of the table of a set. `stored` has its values as bytes.
 pub fn write_table(
     stats: &StatsSet,
     stored: &Stored,
@@ -35,7 +35,7 @@ pub fn write_table(
     Ok(())
 }
 
-// Writes the vector of bytes that may stand, where the link to it is the next that is left.
+// Writes the vector of optional bytes. The link to it is the next unlinked one.
 #[tactic(auto, using(crate::proofs::Chains::vector_steps))]
 fn write_bytes(
     bytes: &Option<Blob>,

@@ -1,7 +1,8 @@
-use Rattle.std.proofs.Common.{◌≡◌, ap, sym, subst, ◌∙◌}
+use Rattle.std.proofs.Common.{◌≡◌, ◌<◌, refl, ap, sym, subst, ◌∙◌}
 use Rattle.std.proofs.lemmas.Result.{err_from_is_err_and}
 use Rattle.vx_trees.proofs.LawsOfResults.{at_error, at_match}
-use Rattle.vx_proto.specs.Value.{value_view}
+use Rattle.vx_proto.specs.Value.{Value, value_view}
+use Rattle.vx_proto.specs.Written.{nested}
 use Rattle.vx_types.specs.Seen.{typ}
 use Rattle.vx_types.specs.declared.dtype.DType.{DType}
 use Rattle.vx_type_wire.specs.declared.error.TypeWireError.TheVariants.{OutOfMemory}
@@ -10,14 +11,36 @@ use Rattle.vx_type_wire.specs.MessageReading.{type_in}
 use Rattle.vx_type_wire.specs.Session.{ext_meaning}
 use Rattle.vx_type_wire.specs.TypeMessage.{RefusesReadingType}
 use Rattle.vx_type_wire.proofs.OneType.{known_or}
-use Rattle.vx_type_wire.proofs.MessageFound.{no_default, reads_message, shows_message, only_memory, unread_value, unknown_value, the_type}
+use Rattle.vx_type_wire.proofs.MessageFound.{default_flat, never_deep, no_default, reads_message, shows_message, only_memory, unread_value, unknown_value, the_type, too_deep}
 use Rattle.vx_type_wire.proofs.messages.DTypeDTypeExt.from_proto.Goals as goal
 
 pub returns-in_default-clause-cause : goal.returns-in_default-clause-cause
 returns-in_default-clause-cause g c = no_default c.args.message.now c.in_default.ensures.value
 
 pub returns-in_default-clause-complete : goal.returns-in_default-clause-complete
-returns-in_default-clause-complete g c = λ t le r. absurd (no_default c.args.message.now c.in_default.ensures.value t le r.shows)
+returns-in_default-clause-complete g c = λ t le r. absurd (no_default c.args.message.now c.in_default.ensures.value t r.shows)
+
+pub returns-in_default-clause-deep : goal.returns-in_default-clause-deep
+returns-in_default-clause-deep g c = λ h. absurd (never_deep c.args.message.now c.args.message.now refl (default_flat c.args.message.now c.in_default.ensures.value) h)
+
+pub returns-then-not-nests_within-clause-cause : goal.returns-then-not-nests_within-clause-cause
+returns-then-not-nests_within-clause-cause g c = subst (λ (v : Value). 100 < nested v) c.in-Some.ensures.value (c.nests_within.ensures.beyond c.if-not-nests_within.true)
+
+pub returns-then-not-nests_within-clause-complete : goal.returns-then-not-nests_within-clause-complete
+returns-then-not-nests_within-clause-complete g c = λ t le r.
+    absurd (too_deep t c.args.message.now le r.shows (subst (λ (v : Value). 100 < nested v) c.in-Some.ensures.value (c.nests_within.ensures.beyond c.if-not-nests_within.true)))
+
+pub returns-in_err-found-clause-deep : goal.returns-in_err-found-clause-deep
+returns-in_err-found-clause-deep g c = λ h.
+    absurd (never_deep c.args.message.now (value_view c.in-Some.slots.now) c.in-Some.ensures.value (c.nests_within.ensures.within c.if-not-nests_within.false) h)
+
+pub returns-in_err-judge-clause-deep : goal.returns-in_err-judge-clause-deep
+returns-in_err-judge-clause-deep g c = λ h.
+    absurd (never_deep c.args.message.now (value_view c.in-Some.slots.now) c.in-Some.ensures.value (c.nests_within.ensures.within c.if-not-nests_within.false) h)
+
+pub returns-clause-deep : goal.returns-clause-deep
+returns-clause-deep g c = λ h.
+    absurd (never_deep c.args.message.now (value_view c.in-Some.slots.now) c.in-Some.ensures.value (c.nests_within.ensures.within c.if-not-nests_within.false) h)
 
 pub returns-in_err-found-clause-cause : goal.returns-in_err-found-clause-cause
 returns-in_err-found-clause-cause g c =
@@ -25,7 +48,7 @@ returns-in_err-found-clause-cause g c =
     let s = ext_meaning (λ b. (goal.ExtPlugin-dyn g (b.vtable, b.value)).accepted b.value) c.args.readers.now in
     let e = c.in_err-found.field-0.0 in
     at_error c.from_residual.result p.0 e (λ x. RefusesReadingType x s c.args.message.now) p.1 p.2
-    (unread_value e s c.args.message.now (value_view c.in-Some.slots.now) c.in-Some.ensures.value c.in_err-found.ensures)
+    (unread_value e s c.args.message.now (value_view c.in-Some.slots.now) c.in-Some.ensures.value (c.nests_within.ensures.within c.if-not-nests_within.false) c.in_err-found.ensures)
 
 pub returns-in_err-found-clause-complete : goal.returns-in_err-found-clause-complete
 returns-in_err-found-clause-complete g c = λ t le r.
