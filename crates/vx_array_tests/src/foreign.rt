@@ -3,10 +3,10 @@
 use crate::parts::{Made, aligned_to, buffer_of, flags, numbers, row_of, some};
 use std::alloc::Global;
 use vx_arrays::{
-    Array, ArrayError, Arrays, Body, BoolArray, DictArray, PrimitiveArray, RowValue,
-    new_foreign_array,
+    Array, ArrayError, Arrays, Body, BoolArray, DictArray, ForeignArray, ForeignArrayData,
+    PrimitiveArray, RowValue, new_foreign_array,
 };
-use vx_buffer::{Alignment, BufferHandles};
+use vx_buffer::{Alignment, BufferHandle, BufferHandles};
 use vx_nested_parts::parts::both;
 use vx_types::{Blob, DType, Id, Nullability, PType};
 
@@ -90,6 +90,84 @@ fn is_kept(made: Made, metadata: &[u8]) -> Result<bool, ArrayError> {
 fn parts_are_kept(rt: HostRuntime) {
     let made = unknown(rt.alloc(), Rows::Flags, 3, &[7, 0, 9], 6);
     assert!(rt; is_kept(made, &[7, 0, 9]) == Ok(true));
+}
+
+// The encoding `x.y`.
+fn encoding(alloc: Global) -> Result<ForeignArray, ArrayError> {
+    match Id::new(alloc, "x.y") {
+        Ok(id) => Ok(ForeignArray::new(id)),
+        Err(_) => Err(ArrayError::OutOfMemory),
+    }
+}
+
+// Whether an encoding and its clone have that identifier.
+fn is_encoding_cloned(alloc: Global) -> Result<bool, ArrayError> {
+    let array = encoding(alloc)?;
+    let copy = array.clone(alloc)?;
+    Ok(array.id().as_str() == "x.y" && copy.id().as_str() == "x.y")
+}
+
+// Bytes of metadata.
+fn metadata_of(alloc: Global, bytes: &[u8]) -> Result<Blob, ArrayError> {
+    match Blob::copy_from(alloc, bytes) {
+        Ok(metadata) => Ok(metadata),
+        Err(_) => Err(ArrayError::OutOfMemory),
+    }
+}
+
+// The metadata `aa` and a buffer of three bytes that is aligned to 16.
+fn data(alloc: Global) -> Result<ForeignArrayData, ArrayError> {
+    let (metadata, buffers) = both(metadata_of(alloc, &[0xaa]), one_buffer(alloc, 4))?;
+    Ok(ForeignArrayData::new(metadata, buffers))
+}
+
+// Whether these are that one buffer.
+fn is_that_buffer(buffers: &[BufferHandle]) -> bool {
+    match buffers {
+        [buffer] => buffer.as_host().as_slice() == b"abc".as_slice()
+            && buffer.alignment().exponent() == 4,
+        _ => false,
+    }
+}
+
+// Whether that metadata and that buffer are kept.
+fn keeps_data(kept: &ForeignArrayData) -> bool {
+    kept.metadata().as_slice() == [0xaa].as_slice() && is_that_buffer(kept.buffers())
+}
+
+// Whether data that is made first is kept so.
+fn is_data_kept(made: Result<ForeignArrayData, ArrayError>) -> bool {
+    match made {
+        Ok(kept) => {
+            let holds = keeps_data(&kept);
+            drop(kept);
+            holds
+        }
+        Err(_) => false,
+    }
+}
+
+// A clone of data that is made first.
+fn data_clone(
+    alloc: Global,
+    made: Result<ForeignArrayData, ArrayError>,
+) -> Result<ForeignArrayData, ArrayError> {
+    match made {
+        Ok(kept) => {
+            let copy = kept.clone(alloc);
+            drop(kept);
+            copy
+        }
+        Err(e) => Err(e),
+    }
+}
+
+#[test]
+fn clones_have_the_fields_of_their_source(rt: HostRuntime) {
+    let alloc = rt.alloc();
+    assert!(rt; is_encoding_cloned(alloc) == Ok(true));
+    assert!(rt; is_data_kept(data(alloc)));
+    assert!(rt; is_data_kept(data_clone(alloc, data(alloc))));
 }
 
 // Whether two arrays that are made first are equal.
