@@ -124,7 +124,8 @@ fn data(alloc: Global) -> Result<ForeignArrayData, ArrayError> {
 // Whether these are that one buffer.
 fn is_that_buffer(buffers: &[BufferHandle]) -> bool {
     match buffers {
-        [buffer] => buffer.as_host().as_slice() == b"abc" && buffer.alignment().exponent() == 4,
+        [buffer] => buffer.as_host().as_slice() == b"abc".as_slice()
+            && buffer.alignment().exponent() == 4,
         _ => false,
     }
 }
