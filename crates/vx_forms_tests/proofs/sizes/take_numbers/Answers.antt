@@ -1,5 +1,5 @@
 -- By the steps of a loop that reads a list.
-use Rattle.std.proofs.Common.{suc, ◌≡◌, ◌+◌, ◌-◌, ap, sym, ◌∙◌, arith}
+use Rattle.std.proofs.Common.{◌+◌, ◌-◌, ap, sym, ◌∙◌, arith}
 use Rattle.vx_forms.specs.Lists.{read_more}
 use Rattle.vx_forms.specs.Numbers.{uint64}
 use Rattle.vx_forms.proofs.ListSteps.{each_step, each_refused}
