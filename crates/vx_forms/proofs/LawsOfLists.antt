@@ -28,7 +28,8 @@ module _ {A : Type 0} (f : Form A) where
   abbrev Others : ℕ → A → List A → List ℕ → Type 0
   Others n x xs bytes = ShowsView (ShowsMany f n) (λ ys. x ∷ ys) xs bytes
 
-  as_after : (n : ℕ) (xs : List A) (bytes : List ℕ) → ShowsMany f (suc n) xs bytes → ShowsAfter f.Shows (Others n) xs bytes
+  as_after : (n : ℕ) (xs : List A) (bytes : List ℕ) → ShowsMany f (suc n) xs bytes
+      → ShowsAfter f.Shows (Others n) xs bytes
   as_after n [] bytes s = absurd (let e = s.many in omega (arith, e))
   as_after n (x ∷ xs) bytes s =
       let e = s.many in
@@ -38,35 +39,60 @@ module _ {A : Type 0} (f : Form A) where
         second = s.each.second;
         parts = s.each.parts;
         in_first = s.each.in_first;
-        in_second = record { value = xs; is = refl; shown = record { many = omega (arith, e); each = s.each.in_second } };
+        in_second = record {
+          value = xs;
+          is = refl;
+          shown = record { many = omega (arith, e); each = s.each.in_second };
+        };
       }
 
-  as_many : (n : ℕ) (xs : List A) (bytes : List ℕ) → ShowsAfter f.Shows (Others n) xs bytes → ShowsMany f (suc n) xs bytes
+  as_many : (n : ℕ) (xs : List A) (bytes : List ℕ) → ShowsAfter f.Shows (Others n) xs bytes
+      → ShowsMany f (suc n) xs bytes
   as_many n xs bytes s = subst (λ ys. ShowsMany f (suc n) ys bytes) s.in_second.is
       (record {
         many = ap suc s.in_second.shown.many;
-        each = record { first = s.first; second = s.second; parts = s.parts; in_first = s.in_first; in_second = s.in_second.shown.each };
+        each = record {
+          first = s.first;
+          second = s.second;
+          parts = s.parts;
+          in_first = s.in_first;
+          in_second = s.in_second.shown.each;
+        };
       })
 
   pub each_reader : IsLawful f → (n : ℕ) → IsReader (ShowsMany f n) (read_each f n)
-  each_reader law zero = restated (λ xs bytes. (bytes ≡ []) × (xs ≡ [])) (ShowsMany f 0) (λ bytes. whole [] bytes) (ended []) as_ended as_none
+  each_reader law zero = restated (λ xs bytes. (bytes ≡ []) × (xs ≡ [])) (ShowsMany f 0) (λ bytes. whole [] bytes)
+      (ended []) as_ended as_none
   each_reader law (suc n) =
-      restated (ShowsAfter f.Shows (Others n)) (ShowsMany f (suc n)) (λ bytes. and_then (f.read bytes) (λ x rest. answer_map (λ ys. x ∷ ys) (read_each f n rest)))
+      restated (ShowsAfter f.Shows (Others n)) (ShowsMany f (suc n))
+      (λ bytes. and_then (f.read bytes) (λ x rest. answer_map (λ ys. x ∷ ys) (read_each f n rest)))
       (followed f.Shows f.read (reader_of f law) (Others n) (λ x rest. answer_map (λ ys. x ∷ ys) (read_each f n rest))
       (λ x. viewed (ShowsMany f n) (read_each f n) (λ ys. x ∷ ys) (each_reader law n)))
       (as_after n) (as_many n)
 
   pub each_written : IsLawful f → (xs : List A) → AllByRecursion f.Fits xs → ShowEach f xs (flat_map f.write xs)
   each_written law [] h = refl
-  each_written law (x ∷ xs) h = record { first = f.write x; second = flat_map f.write xs; parts = refl; in_first = law.written x h.0; in_second = each_written law xs h.1 }
+  each_written law (x ∷ xs) h =
+      record {
+        first = f.write x;
+        second = flat_map f.write xs;
+        parts = refl;
+        in_first = law.written x h.0;
+        in_second = each_written law xs h.1;
+      }
 
-  each_fit : IsCanonical f → (xs : List A) (bytes : List ℕ) → AreBytes bytes → ShowEach f xs bytes → AllByRecursion f.Fits xs
+  each_fit : IsCanonical f → (xs : List A) (bytes : List ℕ) → AreBytes bytes → ShowEach f xs bytes
+      → AllByRecursion f.Fits xs
   each_fit one [] bytes h s = tt
   each_fit one (x ∷ xs) bytes h s =
-      let are = subst AreBytes s.parts h in
-      (one.fits x s.first (bytes_before s.first s.second are) s.in_first, each_fit one xs s.second (bytes_after s.first s.second are) s.in_second)
+      let are = subst AreBytes s.parts h in (
+        one.fits x s.first (bytes_before s.first s.second are) s.in_first,
+        each_fit one xs s.second
+            (bytes_after s.first s.second are) s.in_second,
+      )
 
-  each_same : IsCanonical f → (xs : List A) (bytes : List ℕ) → AreBytes bytes → ShowEach f xs bytes → bytes ≡ flat_map f.write xs
+  each_same : IsCanonical f → (xs : List A) (bytes : List ℕ) → AreBytes bytes → ShowEach f xs bytes
+      → bytes ≡ flat_map f.write xs
   each_same one [] bytes h s = s
   each_same one (x ∷ xs) bytes h s =
       let are = subst AreBytes s.parts h in
@@ -75,7 +101,8 @@ module _ {A : Type 0} (f : Form A) where
 
   -- ---- after their count
 
-  counted_after : (low high : ℕ) (xs : List A) (bytes : List ℕ) → (list low high f).Shows xs bytes → ShowsAfter (count low high).Shows (ShowsMany f) xs bytes
+  counted_after : (low high : ℕ) (xs : List A) (bytes : List ℕ) → (list low high f).Shows xs bytes
+      → ShowsAfter (count low high).Shows (ShowsMany f) xs bytes
   counted_after low high xs bytes s = record {
     value = length xs;
     first = s.first;
@@ -85,7 +112,8 @@ module _ {A : Type 0} (f : Form A) where
     in_second = record { many = refl; each = s.in_second };
   }
 
-  as_list : (low high : ℕ) (xs : List A) (bytes : List ℕ) → ShowsAfter (count low high).Shows (ShowsMany f) xs bytes → (list low high f).Shows xs bytes
+  as_list : (low high : ℕ) (xs : List A) (bytes : List ℕ) → ShowsAfter (count low high).Shows (ShowsMany f) xs bytes
+      → (list low high f).Shows xs bytes
   as_list low high xs bytes s = record {
     first = s.first;
     second = s.second;
@@ -98,7 +126,8 @@ module _ {A : Type 0} (f : Form A) where
   list_lawful low high law =
       lawful_of (list low high f)
       (restated (ShowsAfter (count low high).Shows (ShowsMany f)) (list low high f).Shows (list low high f).read
-      (followed (count low high).Shows (count low high).read (reader_of (count low high) (count_lawful low high)) (ShowsMany f) (λ n rest. read_each f n rest) (each_reader law))
+      (followed (count low high).Shows (count low high).read (reader_of (count low high) (count_lawful low high))
+      (ShowsMany f) (λ n rest. read_each f n rest) (each_reader law))
       (counted_after low high) (as_list low high))
       (λ xs h. record {
         first = (count low high).write (length xs);
@@ -116,6 +145,8 @@ module _ {A : Type 0} (f : Form A) where
         (c.0, c.1, each_fit one xs s.second (bytes_after s.first s.second are) s.in_second);
     same = λ xs bytes h s.
         let are = subst AreBytes s.parts h in
-        s.parts ∙ ap (λ (z : List ℕ). z ++ s.second) ((count_canonical low high).same (length xs) s.first (bytes_before s.first s.second are) s.in_first)
-        ∙ ap (λ (z : List ℕ). (count low high).write (length xs) ++ z) (each_same one xs s.second (bytes_after s.first s.second are) s.in_second);
+        s.parts ∙ ap (λ (z : List ℕ). z ++ s.second)
+        ((count_canonical low high).same (length xs) s.first (bytes_before s.first s.second are) s.in_first)
+        ∙ ap (λ (z : List ℕ). (count low high).write (length xs) ++ z)
+        (each_same one xs s.second (bytes_after s.first s.second are) s.in_second);
   }

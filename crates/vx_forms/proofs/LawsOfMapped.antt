@@ -10,12 +10,14 @@ module _ {A B : Type 0} (view : A → B) (back : B → A) (inverse : AreInverse 
   as_view y bytes s = record { value = back y; is = inverse.view_back y; shown = s }
 
   as_mapped : (y : B) (bytes : List ℕ) → ShowsView f.Shows view y bytes → f.Shows (back y) bytes
-  as_mapped y bytes s = subst (λ z. f.Shows (back z) bytes) s.is (subst (λ z. f.Shows z bytes) (sym (inverse.back_view s.value)) s.shown)
+  as_mapped y bytes s =
+      subst (λ z. f.Shows (back z) bytes) s.is (subst (λ z. f.Shows z bytes) (sym (inverse.back_view s.value)) s.shown)
 
   pub mapped_lawful : IsLawful f → IsLawful (mapped view back f)
   mapped_lawful law =
       lawful_of (mapped view back f)
-      (restated (ShowsView f.Shows view) (λ y bytes. f.Shows (back y) bytes) (λ bytes. answer_map view (f.read bytes)) (viewed f.Shows f.read view (reader_of f law)) as_view as_mapped)
+      (restated (ShowsView f.Shows view) (λ y bytes. f.Shows (back y) bytes) (λ bytes. answer_map view (f.read bytes))
+      (viewed f.Shows f.read view (reader_of f law)) as_view as_mapped)
       (λ y h. law.written (back y) h)
 
   pub mapped_canonical : IsCanonical f → IsCanonical (mapped view back f)

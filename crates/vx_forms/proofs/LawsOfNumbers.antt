@@ -19,7 +19,8 @@ pub record ShowsFront (n : ℕ) (xs bytes : List ℕ) : Type 0 where
   pub len : length xs ≡ n
 
 -- What a test of the length lets through.
-if_long : {A : Type 0} (b : Bool) (x y : A) (rest after : List ℕ) → cond b short (whole x rest) ≡ whole y after → (b ≡ false) × (x ≡ y) × (rest ≡ after)
+if_long : {A : Type 0} (b : Bool) (x y : A) (rest after : List ℕ) → cond b short (whole x rest) ≡ whole y after
+    → (b ≡ false) × (x ≡ y) × (rest ≡ after)
 if_long true x y rest after e = absurd cc
 if_long false x y rest after e = (refl, cc, cc)
 
@@ -30,15 +31,22 @@ never_wrong false x rest e = cc
 front_back : (n : ℕ) (xs bytes rest : List ℕ) → ShowsFront n xs bytes → front_bytes n (bytes ++ rest) ≡ whole xs rest
 front_back n xs bytes rest s =
     ap (λ (z : List ℕ). front_bytes n (z ++ rest)) s.is
-    ∙ rw (le-ltb (length (xs ++ rest)) n (omega (arith, length-append xs rest, s.len)), take_at xs rest n s.len, drop_at xs rest n s.len) refl
+    ∙ rw (
+      le-ltb (length (xs ++ rest)) n (omega (arith, length-append xs rest, s.len)),
+      take_at xs rest n s.len,
+      drop_at
+          xs rest n s.len,
+    ) refl
 
-front_only : (n : ℕ) (bytes xs rest : List ℕ) → front_bytes n bytes ≡ whole xs rest → BeginsWith (ShowsFront n xs) bytes rest
+front_only : (n : ℕ) (bytes xs rest : List ℕ) → front_bytes n bytes ≡ whole xs rest
+    → BeginsWith (ShowsFront n xs) bytes rest
 front_only n bytes xs rest e =
     let u = if_long (nat_lt (length bytes) n) (take n bytes) xs (drop n bytes) rest e in
     let long : n ≤ length bytes = ltb-false (length bytes) n u.0 in
     record {
       front = xs;
-      parts = sym (take-append-drop n bytes) ∙ ap (λ (z : List ℕ). z ++ drop n bytes) u.1 ∙ ap (λ (z : List ℕ). xs ++ z) u.2;
+      parts = sym (take-append-drop n bytes) ∙ ap (λ (z : List ℕ). z ++ drop n bytes) u.1
+          ∙ ap (λ (z : List ℕ). xs ++ z) u.2;
       shown = record { is = refl; len = ap length (sym u.1) ∙ length-take-le n bytes long };
     }
 
@@ -54,7 +62,8 @@ front_reader n = record {
 byte_back : (n : ℕ) (bytes rest : List ℕ) → bytes ≡ n ∷ [] → front_byte (bytes ++ rest) ≡ whole n rest
 byte_back n bytes rest s = ap (λ (z : List ℕ). front_byte (z ++ rest)) s
 
-byte_only : (bytes : List ℕ) (n : ℕ) (rest : List ℕ) → front_byte bytes ≡ whole n rest → BeginsWith (λ front. front ≡ n ∷ []) bytes rest
+byte_only : (bytes : List ℕ) (n : ℕ) (rest : List ℕ) → front_byte bytes ≡ whole n rest
+    → BeginsWith (λ front. front ≡ n ∷ []) bytes rest
 byte_only [] n rest e = absurd cc
 byte_only (b ∷ bs) n rest e =
     let value : b ≡ n = cc in
@@ -70,22 +79,30 @@ uint8_lawful = record { back = byte_back; only = byte_only; refused = byte_refus
 
 -- ---- four and eight bytes
 
-as_view : (w : Width) (size n : ℕ) (bytes : List ℕ) → ShowsNumber w size n bytes → ShowsView (ShowsFront size) (from_le_bytes w) n bytes
+as_view : (w : Width) (size n : ℕ) (bytes : List ℕ) → ShowsNumber w size n bytes
+    → ShowsView (ShowsFront size) (from_le_bytes w) n bytes
 as_view w size n bytes s = record { value = bytes; is = s.value; shown = record { is = refl; len = s.len } }
 
-as_number : (w : Width) (size n : ℕ) (bytes : List ℕ) → ShowsView (ShowsFront size) (from_le_bytes w) n bytes → ShowsNumber w size n bytes
-as_number w size n bytes s = record { len = ap length s.shown.is ∙ s.shown.len; value = ap (from_le_bytes w) s.shown.is ∙ s.is }
+as_number : (w : Width) (size n : ℕ) (bytes : List ℕ) → ShowsView (ShowsFront size) (from_le_bytes w) n bytes
+    → ShowsNumber w size n bytes
+as_number w size n bytes s =
+    record { len = ap length s.shown.is ∙ s.shown.len; value = ap (from_le_bytes w) s.shown.is ∙ s.is }
 
-number_reader : (w : Width) (size : ℕ) → IsReader (ShowsNumber w size) (λ bytes. answer_map (from_le_bytes w) (front_bytes size bytes))
+number_reader : (w : Width) (size : ℕ) → IsReader (ShowsNumber w size)
+    (λ bytes. answer_map (from_le_bytes w) (front_bytes size bytes))
 number_reader w size =
-    restated (ShowsView (ShowsFront size) (from_le_bytes w)) (ShowsNumber w size) (λ bytes. answer_map (from_le_bytes w) (front_bytes size bytes))
-    (viewed (ShowsFront size) (front_bytes size) (from_le_bytes w) (front_reader size)) (as_view w size) (as_number w size)
+    restated (ShowsView (ShowsFront size) (from_le_bytes w)) (ShowsNumber w size)
+    (λ bytes. answer_map (from_le_bytes w) (front_bytes size bytes))
+    (viewed (ShowsFront size) (front_bytes size) (from_le_bytes w) (front_reader size)) (as_view w size)
+    (as_number w size)
 
 pub uint32_lawful : IsLawful uint32
-uint32_lawful = lawful_of uint32 (number_reader w32 4) (λ n h. record { len = refl; value = from_le_bytes-to_le_bytes_4 n h })
+uint32_lawful = lawful_of uint32 (number_reader w32 4)
+    (λ n h. record { len = refl; value = from_le_bytes-to_le_bytes_4 n h })
 
 pub uint64_lawful : IsLawful uint64
-uint64_lawful = lawful_of uint64 (number_reader w64 8) (λ n h. record { len = refl; value = from_le_bytes-to_le_bytes_8 n h })
+uint64_lawful = lawful_of uint64 (number_reader w64 8)
+    (λ n h. record { len = refl; value = from_le_bytes-to_le_bytes_8 n h })
 
 -- ---- one encoding
 

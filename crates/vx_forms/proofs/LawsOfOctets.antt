@@ -13,9 +13,18 @@ use Rattle.vx_forms.proofs.LawsOfTested.{count_lawful, count_canonical, tested_l
 
 module _ (low high : ℕ) where
   as_after : (xs bytes : List ℕ) → ShowsOctets low high xs bytes → ShowsAfter (count low high).Shows ShowsFront xs bytes
-  as_after xs bytes s = record { value = length xs; first = s.word; second = xs; parts = s.parts; in_first = s.counted; in_second = record { is = refl; len = refl } }
+  as_after xs bytes s =
+      record {
+        value = length xs;
+        first = s.word;
+        second = xs;
+        parts = s.parts;
+        in_first = s.counted;
+        in_second = record { is = refl; len = refl };
+      }
 
-  as_octets : (xs bytes : List ℕ) → ShowsAfter (count low high).Shows ShowsFront xs bytes → ShowsOctets low high xs bytes
+  as_octets : (xs bytes : List ℕ) → ShowsAfter (count low high).Shows ShowsFront xs bytes
+      → ShowsOctets low high xs bytes
   as_octets xs bytes s = record {
     word = s.first;
     parts = s.parts ∙ ap (λ (z : List ℕ). s.first ++ z) s.in_second.is;
@@ -26,15 +35,23 @@ module _ (low high : ℕ) where
   octets_lawful =
       lawful_of (octets low high)
       (restated (ShowsAfter (count low high).Shows ShowsFront) (ShowsOctets low high) (octets low high).read
-      (followed (count low high).Shows (count low high).read (reader_of (count low high) (count_lawful low high)) ShowsFront front_bytes front_reader)
+      (followed (count low high).Shows (count low high).read (reader_of (count low high) (count_lawful low high))
+      ShowsFront front_bytes front_reader)
       as_after as_octets)
-      (λ xs h. record { word = (count low high).write (length xs); parts = refl; counted = (count_lawful low high).written (length xs) h })
+      (λ xs h. record {
+        word = (count low high).write (length xs);
+        parts = refl;
+        counted = (count_lawful low high).written (length xs) h;
+      })
 
   pub octets_canonical : IsCanonical (octets low high)
   octets_canonical = record {
-    fits = λ xs bytes h s. (count_canonical low high).fits (length xs) s.word (bytes_before s.word xs (subst AreBytes s.parts h)) s.counted;
+    fits = λ xs bytes h s. (count_canonical low high).fits (length xs) s.word
+        (bytes_before s.word xs (subst AreBytes s.parts h)) s.counted;
     same = λ xs bytes h s.
-        s.parts ∙ ap (λ (z : List ℕ). z ++ xs) ((count_canonical low high).same (length xs) s.word (bytes_before s.word xs (subst AreBytes s.parts h)) s.counted);
+        s.parts ∙ ap (λ (z : List ℕ). z ++ xs)
+        ((count_canonical low high).same (length xs) s.word (bytes_before s.word xs (subst AreBytes s.parts h))
+        s.counted);
   }
 
   pub text_lawful : IsLawful (text low high)

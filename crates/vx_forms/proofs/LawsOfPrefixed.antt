@@ -28,13 +28,15 @@ module _ (word : List ℕ) where
 
   as_constant : (x : Unit {0}) (bytes : List ℕ) → ShowsAfter (ShowsFront (length word)) IsWord x bytes → bytes ≡ word
   as_constant x bytes s =
-      s.parts ∙ ap (λ (z : List ℕ). s.first ++ z) s.in_second.1.0 ∙ append-nil s.first ∙ s.in_first.is ∙ (bytes_eq-Decides s.value word).0 s.in_second.0
+      s.parts ∙ ap (λ (z : List ℕ). s.first ++ z) s.in_second.1.0 ∙ append-nil s.first ∙ s.in_first.is
+      ∙ (bytes_eq-Decides s.value word).0 s.in_second.0
 
   pub constant_lawful : IsLawful (constant word)
   constant_lawful =
       lawful_of (constant word)
       (restated (ShowsAfter (ShowsFront (length word)) IsWord) (constant word).Shows (constant word).read
-      (followed (ShowsFront (length word)) (front_bytes (length word)) (front_reader (length word)) IsWord (λ front rest. cond (bytes_eq front word) (whole tt rest) wrong)
+      (followed (ShowsFront (length word)) (front_bytes (length word)) (front_reader (length word)) IsWord
+      (λ front rest. cond (bytes_eq front word) (whole tt rest) wrong)
       (λ front. guarded (bytes_eq front word) (λ x bytes. (bytes ≡ []) × (x ≡ tt)) (λ rest. whole tt rest) (ended tt)))
       as_after as_constant)
       (λ x h. refl)
@@ -46,22 +48,28 @@ module _ {A : Type 0} (word : List ℕ) (f : Form A) where
   abbrev After : Unit {0} → A → List ℕ → Type 0
   After u x bytes = f.Shows x bytes
 
-  as_followed : (x : A) (bytes : List ℕ) → IsPrefixed word (f.Shows x) bytes → ShowsAfter (constant word).Shows After x bytes
-  as_followed x bytes s = record { value = tt; first = word; second = s.second; parts = s.parts; in_first = refl; in_second = s.shown }
+  as_followed : (x : A) (bytes : List ℕ) → IsPrefixed word (f.Shows x) bytes
+      → ShowsAfter (constant word).Shows After x bytes
+  as_followed x bytes s =
+      record { value = tt; first = word; second = s.second; parts = s.parts; in_first = refl; in_second = s.shown }
 
-  as_prefixed : (x : A) (bytes : List ℕ) → ShowsAfter (constant word).Shows After x bytes → IsPrefixed word (f.Shows x) bytes
-  as_prefixed x bytes s = record { second = s.second; parts = s.parts ∙ ap (λ (z : List ℕ). z ++ s.second) s.in_first; shown = s.in_second }
+  as_prefixed : (x : A) (bytes : List ℕ) → ShowsAfter (constant word).Shows After x bytes
+      → IsPrefixed word (f.Shows x) bytes
+  as_prefixed x bytes s =
+      record { second = s.second; parts = s.parts ∙ ap (λ (z : List ℕ). z ++ s.second) s.in_first; shown = s.in_second }
 
   pub prefixed_lawful : IsLawful f → IsLawful (prefixed word f)
   prefixed_lawful law =
       lawful_of (prefixed word f)
       (restated (ShowsAfter (constant word).Shows After) (prefixed word f).Shows (prefixed word f).read
-      (followed (constant word).Shows (constant word).read (reader_of (constant word) (constant_lawful word)) After (λ u rest. f.read rest) (λ u. reader_of f law))
+      (followed (constant word).Shows (constant word).read (reader_of (constant word) (constant_lawful word)) After
+      (λ u rest. f.read rest) (λ u. reader_of f law))
       as_followed as_prefixed)
       (λ x h. record { second = f.write x; parts = refl; shown = law.written x h })
 
   pub prefixed_canonical : IsCanonical f → IsCanonical (prefixed word f)
   prefixed_canonical one = record {
     fits = λ x bytes h s. one.fits x s.second (bytes_after word s.second (subst AreBytes s.parts h)) s.shown;
-    same = λ x bytes h s. s.parts ∙ ap (λ (z : List ℕ). word ++ z) (one.same x s.second (bytes_after word s.second (subst AreBytes s.parts h)) s.shown);
+    same = λ x bytes h s. s.parts ∙ ap (λ (z : List ℕ). word ++ z)
+        (one.same x s.second (bytes_after word s.second (subst AreBytes s.parts h)) s.shown);
   }

@@ -13,13 +13,23 @@ module _ {A : Type 0} (test : A → Bool) (f : Form A) where
   Passes x y bytes = (test x ≡ true) × ((bytes ≡ []) × (y ≡ x))
 
   as_after : (x : A) (bytes : List ℕ) → (tested test f).Shows x bytes → ShowsAfter f.Shows Passes x bytes
-  as_after x bytes s = record { value = x; first = bytes; second = []; parts = sym (append-nil bytes); in_first = s.1; in_second = (s.0, (refl, refl)) }
+  as_after x bytes s = record {
+    value = x;
+    first = bytes;
+    second = [];
+    parts = sym (append-nil bytes);
+    in_first = s.1;
+    in_second = (s.0, (refl, refl));
+  }
 
   as_tested : (x : A) (bytes : List ℕ) → ShowsAfter f.Shows Passes x bytes → (tested test f).Shows x bytes
   as_tested x bytes s =
       let all : bytes ≡ s.first = s.parts ∙ ap (λ (z : List ℕ). s.first ++ z) s.in_second.1.0 ∙ append-nil s.first in
-      let value : s.value ≡ x = sym s.in_second.1.1 in
-      (subst (λ z. test z ≡ true) value s.in_second.0, subst (λ z. f.Shows z bytes) value (subst (λ z. f.Shows s.value z) (sym all) s.in_first))
+      let value : s.value ≡ x = sym s.in_second.1.1 in (
+        subst (λ z. test z ≡ true) value s.in_second.0,
+        subst (λ z. f.Shows z bytes) value
+            (subst (λ z. f.Shows s.value z) (sym all) s.in_first),
+      )
 
   pub tested_lawful : IsLawful f → IsLawful (tested test f)
   tested_lawful law =

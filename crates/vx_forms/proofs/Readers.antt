@@ -10,10 +10,12 @@ pub record IsReader {A : Type 0} (Shows : A → List ℕ → Type 0) (read : Lis
 
 -- A value that was found stays found with further bytes, which then end the rest.
 pub stays : {A : Type 0} (Shows : A → List ℕ → Type 0) (read : List ℕ → Answer A) → IsReader Shows read
-    → (bytes more : List ℕ) (x : A) (rest : List ℕ) → read bytes ≡ whole x rest → read (bytes ++ more) ≡ whole x (rest ++ more)
+    → (bytes more : List ℕ) (x : A) (rest : List ℕ) → read bytes ≡ whole x rest
+    → read (bytes ++ more) ≡ whole x (rest ++ more)
 stays Shows read r bytes more x rest e =
     let b = r.only bytes x rest e in
-    ap read (ap (λ (z : List ℕ). z ++ more) b.parts ∙ append_assoc b.front rest more) ∙ r.back x b.front (rest ++ more) b.shown
+    ap read (ap (λ (z : List ℕ). z ++ more) b.parts ∙ append_assoc b.front rest more)
+    ∙ r.back x b.front (rest ++ more) b.shown
 
 -- ---- what an answer came from
 
@@ -23,12 +25,14 @@ pub record IsAfter {A B : Type 0} (a : Answer A) (next : A → List ℕ → Answ
   pub found : a ≡ whole value rest
   pub then : next value rest ≡ b
 
-pub after_whole : {A B : Type 0} (a : Answer A) (next : A → List ℕ → Answer B) (y : B) (rest : List ℕ) → and_then a next ≡ whole y rest → IsAfter a next (whole y rest)
+pub after_whole : {A B : Type 0} (a : Answer A) (next : A → List ℕ → Answer B) (y : B) (rest : List ℕ)
+    → and_then a next ≡ whole y rest → IsAfter a next (whole y rest)
 after_whole (whole x bytes) next y rest e = record { value = x; rest = bytes; found = refl; then = e }
 after_whole short next y rest e = absurd cc
 after_whole wrong next y rest e = absurd cc
 
-pub after_wrong : {A B : Type 0} (a : Answer A) (next : A → List ℕ → Answer B) → and_then a next ≡ wrong → (a ≡ wrong) ⊎ IsAfter a next wrong
+pub after_wrong : {A B : Type 0} (a : Answer A) (next : A → List ℕ → Answer B) → and_then a next ≡ wrong
+    → (a ≡ wrong) ⊎ IsAfter a next wrong
 after_wrong (whole x bytes) next e = inr (record { value = x; rest = bytes; found = refl; then = e })
 after_wrong short next e = absurd cc
 after_wrong wrong next e = inl refl
@@ -38,7 +42,8 @@ pub record IsMapped {A B : Type 0} (a : Answer A) (view : A → B) (y : B) (rest
   pub found : a ≡ whole value rest
   pub is : view value ≡ y
 
-pub mapped_whole : {A B : Type 0} (a : Answer A) (view : A → B) (y : B) (rest : List ℕ) → answer_map view a ≡ whole y rest → IsMapped a view y rest
+pub mapped_whole : {A B : Type 0} (a : Answer A) (view : A → B) (y : B) (rest : List ℕ)
+    → answer_map view a ≡ whole y rest → IsMapped a view y rest
 mapped_whole (whole x bytes) view y rest e =
     let same : bytes ≡ rest = cc in
     record { value = x; found = ap (λ (z : List ℕ). whole x z) same; is = cc }
@@ -54,10 +59,12 @@ mapped_wrong wrong view e = refl
 
 -- The same reader, where other words say what bytes show.
 pub restated : {A : Type 0} (Shows Other : A → List ℕ → Type 0) (read : List ℕ → Answer A) → IsReader Shows read
-    → ((x : A) (bytes : List ℕ) → Other x bytes → Shows x bytes) → ((x : A) (bytes : List ℕ) → Shows x bytes → Other x bytes) → IsReader Other read
+    → ((x : A) (bytes : List ℕ) → Other x bytes → Shows x bytes)
+    → ((x : A) (bytes : List ℕ) → Shows x bytes → Other x bytes) → IsReader Other read
 restated Shows Other read r there again = record {
   back = λ x bytes rest s. r.back x bytes rest (there x bytes s);
-  only = λ bytes x rest e. let b = r.only bytes x rest e in record { front = b.front; parts = b.parts; shown = again x b.front b.shown };
+  only = λ bytes x rest e. let b =
+      r.only bytes x rest e in record { front = b.front; parts = b.parts; shown = again x b.front b.shown };
   refused = r.refused;
 }
 
@@ -72,7 +79,8 @@ ended x = record {
 -- A reader that goes on only where a test is true.
 pub guarded : {A : Type 0} (b : Bool) (Shows : A → List ℕ → Type 0) (read : List ℕ → Answer A) → IsReader Shows read
     → IsReader (λ x bytes. (b ≡ true) × Shows x bytes) (λ rest. cond b (read rest) wrong)
-guarded true Shows read r = restated Shows (λ x bytes. (true ≡ true) × Shows x bytes) read r (λ x bytes s. s.1) (λ x bytes s. (refl, s))
+guarded true Shows read r =
+    restated Shows (λ x bytes. (true ≡ true) × Shows x bytes) read r (λ x bytes s. s.1) (λ x bytes s. (refl, s))
 guarded false Shows read r = record {
   back = λ x bytes rest s. absurd (let e = s.0 in cc);
   only = λ bytes x rest e. absurd cc;
@@ -85,10 +93,12 @@ pub record ShowsView {A B : Type 0} (Shows : A → List ℕ → Type 0) (view : 
   pub is : view value ≡ y
   pub shown : Shows value bytes
 
-pub viewed : {A B : Type 0} (Shows : A → List ℕ → Type 0) (read : List ℕ → Answer A) (view : A → B) → IsReader Shows read
+pub viewed : {A B : Type 0} (Shows : A → List ℕ → Type 0) (read : List ℕ → Answer A) (view : A → B)
+    → IsReader Shows read
     → IsReader (ShowsView Shows view) (λ bytes. answer_map view (read bytes))
 viewed Shows read view r = record {
-  back = λ y bytes rest s. ap (λ a. answer_map view a) (r.back s.value bytes rest s.shown) ∙ ap (λ z. whole z rest) s.is;
+  back = λ y bytes rest s. ap (λ a. answer_map view a) (r.back s.value bytes rest s.shown)
+      ∙ ap (λ z. whole z rest) s.is;
   only = λ bytes y rest e.
       let m = mapped_whole (read bytes) view y rest e in
       let b = r.only bytes m.value rest m.found in
@@ -97,7 +107,8 @@ viewed Shows read view r = record {
 }
 
 -- Bytes show a value where some first ones show another, on which it may depend what the others show.
-pub record ShowsAfter {A B : Type 0} (Shows : A → List ℕ → Type 0) (Next : A → B → List ℕ → Type 0) (y : B) (bytes : List ℕ) : Type 0 where
+pub record ShowsAfter {A B : Type 0} (Shows : A → List ℕ → Type 0) (Next : A → B → List ℕ → Type 0) (y : B)
+    (bytes : List ℕ) : Type 0 where
   pub value : A
   pub first : List ℕ
   pub second : List ℕ
@@ -107,13 +118,16 @@ pub record ShowsAfter {A B : Type 0} (Shows : A → List ℕ → Type 0) (Next :
 
 module _ {A B : Type 0} (Shows : A → List ℕ → Type 0) (read : List ℕ → Answer A) (r : IsReader Shows read)
     (Next : A → B → List ℕ → Type 0) (next : A → List ℕ → Answer B) (n : (x : A) → IsReader (Next x) (next x)) where
-  followed_back : (y : B) (bytes rest : List ℕ) → ShowsAfter Shows Next y bytes → and_then (read (bytes ++ rest)) next ≡ whole y rest
+  followed_back : (y : B) (bytes rest : List ℕ) → ShowsAfter Shows Next y bytes
+      → and_then (read (bytes ++ rest)) next ≡ whole y rest
   followed_back y bytes rest s =
-      ap (λ (z : List ℕ). and_then (read z) next) (ap (λ (z : List ℕ). z ++ rest) s.parts ∙ append_assoc s.first s.second rest)
+      ap (λ (z : List ℕ). and_then (read z) next)
+      (ap (λ (z : List ℕ). z ++ rest) s.parts ∙ append_assoc s.first s.second rest)
       ∙ ap (λ a. and_then a next) (r.back s.value s.first (s.second ++ rest) s.in_first)
       ∙ (n s.value).back y s.second rest s.in_second
 
-  followed_only : (bytes : List ℕ) (y : B) (rest : List ℕ) → and_then (read bytes) next ≡ whole y rest → BeginsWith (ShowsAfter Shows Next y) bytes rest
+  followed_only : (bytes : List ℕ) (y : B) (rest : List ℕ) → and_then (read bytes) next ≡ whole y rest
+      → BeginsWith (ShowsAfter Shows Next y) bytes rest
   followed_only bytes y rest e =
       let s = after_whole (read bytes) next y rest e in
       let b = r.only bytes s.value s.rest s.found in
@@ -121,13 +135,22 @@ module _ {A B : Type 0} (Shows : A → List ℕ → Type 0) (read : List ℕ →
       record {
         front = b.front ++ c.front;
         parts = b.parts ∙ ap (λ (z : List ℕ). b.front ++ z) c.parts ∙ sym (append_assoc b.front c.front rest);
-        shown = record { value = s.value; first = b.front; second = c.front; parts = refl; in_first = b.shown; in_second = c.shown };
+        shown = record {
+          value = s.value;
+          first = b.front;
+          second = c.front;
+          parts = refl;
+          in_first = b.shown;
+          in_second = c.shown;
+        };
       }
 
-  followed_refused : (bytes more : List ℕ) → and_then (read bytes) next ≡ wrong → and_then (read (bytes ++ more)) next ≡ wrong
+  followed_refused : (bytes more : List ℕ) → and_then (read bytes) next ≡ wrong
+      → and_then (read (bytes ++ more)) next ≡ wrong
   followed_refused bytes more e = elim (after_wrong (read bytes) next e) [
     | inl w ↦ ap (λ a. and_then a next) (r.refused bytes more w)
-    | inr w ↦ ap (λ a. and_then a next) (stays Shows read r bytes more w.value w.rest w.found) ∙ (n w.value).refused w.rest more w.then
+    | inr w ↦ ap (λ a. and_then a next) (stays Shows read r bytes more w.value w.rest w.found)
+        ∙ (n w.value).refused w.rest more w.then
   ]
 
   pub followed : IsReader (ShowsAfter Shows Next) (λ bytes. and_then (read bytes) next)

@@ -2,8 +2,9 @@
 use Rattle.std.specs.Prelude.{ℕ, ◌≡◌, List, [], ◌∷◌, ◌++◌, Option, Some, None}
 use Rattle.vx_trees.specs.Bytes.{AreBytes}
 
--- What a reader finds at the front of bytes of which more may follow. Whole: a value, and the bytes after it. Short: no value
--- yet, and further bytes are needed to tell. Wrong: no value, whatever bytes follow.
+-- What a reader finds at the front of bytes of which more may follow. Whole: a value, and the bytes
+-- after it. Short: no value yet, and further bytes are needed to tell. Wrong: no value, whatever
+-- bytes follow.
 pub data Answer (A : Type 0) : Type 0 where
   whole : A → List ℕ → Answer A
   short : Answer A
@@ -21,8 +22,8 @@ answer_map view (whole x rest) = whole (view x) rest
 answer_map view short = short
 answer_map view wrong = wrong
 
--- A form of values: which bytes show a value, which values can be written, the bytes that are written for one, and what is
--- read at the front of bytes.
+-- A form of values: which bytes show a value, which values can be written, the bytes that are
+-- written for one, and what is read at the front of bytes.
 pub record Form (A : Type 0) : Type 1 where
   pub Shows : A → List ℕ → Type 0
   pub Fits : A → Type 0
@@ -35,15 +36,18 @@ pub record BeginsWith (Shown : List ℕ → Type 0) (bytes rest : List ℕ) : Ty
   pub parts : bytes ≡ front ++ rest
   pub shown : Shown front
 
--- The laws of a form. Bytes that show a value are read as it, whatever follows them; nothing else is read as a value; what is
--- wrong stays wrong with further bytes; and what is written for a value that fits shows it.
+-- The laws of a form. Bytes that show a value are read as it, whatever follows them; nothing else
+-- is read as a value; what is wrong stays wrong with further bytes; and what is written for a value
+-- that fits shows it.
 pub record IsLawful {A : Type 0} (f : Form A) : Type 0 where
   pub back : (x : A) (bytes rest : List ℕ) → f.Shows x bytes → f.read (bytes ++ rest) ≡ whole x rest
-  pub only : (bytes : List ℕ) (x : A) (rest : List ℕ) → f.read bytes ≡ whole x rest → BeginsWith (f.Shows x) bytes rest
+  pub only : (bytes : List ℕ) (x : A) (rest : List ℕ) → f.read bytes ≡ whole x rest
+      → BeginsWith (f.Shows x) bytes rest
   pub refused : (bytes more : List ℕ) → f.read bytes ≡ wrong → f.read (bytes ++ more) ≡ wrong
   pub written : (x : A) → f.Fits x → f.Shows x (f.write x)
 
--- A value that bytes show fits, and the bytes are those that are written for it: no value has two encodings.
+-- A value that bytes show fits, and the bytes are those that are written for it: no value has two
+-- encodings.
 pub record IsCanonical {A : Type 0} (f : Form A) : Type 0 where
   pub fits : (x : A) (bytes : List ℕ) → AreBytes bytes → f.Shows x bytes → f.Fits x
   pub same : (x : A) (bytes : List ℕ) → AreBytes bytes → f.Shows x bytes → bytes ≡ f.write x

@@ -4,8 +4,8 @@ use Rattle.std.specs.Int.{w32, from_le_bytes}
 use Rattle.vx_forms.specs.Form.{Form, read_all}
 use Rattle.vx_forms.specs.Numbers.{uint32}
 
--- A file is its word, a body, the bytes of its footer, their number in four bytes, and the word again; the footer begins at
--- an offset.
+-- A file is its word, a body, the bytes of its footer, their number in four bytes, and the word
+-- again; the footer begins at an offset.
 pub record IsFile (word bytes footer : List ℕ) (offset : ℕ) : Type 0 where
   pub body : List ℕ
   pub count : List ℕ
@@ -13,8 +13,18 @@ pub record IsFile (word bytes footer : List ℕ) (offset : ℕ) : Type 0 where
   pub counted : uint32.Shows (length footer) count
   pub offset_is : offset ≡ length word + length body
 
+-- Bytes are no file with this word, whatever its footer.
+abbrev pub HasNoFooter : List ℕ → List ℕ → Type 0
+HasNoFooter word bytes = (footer : List ℕ) (offset : ℕ) → IsFile word bytes footer offset → ⊥
+
+-- Where the old bytes are the word and a body, the new ones are a file with this footer after them.
+abbrev pub EndsFile : List ℕ → List ℕ → List ℕ → List ℕ → Type 0
+EndsFile word old footer new =
+    (body : List ℕ) → old ≡ word ++ body → IsFile word new footer (length old)
+
 -- A file whose footer shows a value.
-pub record IsFramed {A : Type 0} (word : List ℕ) (f : Form A) (bytes : List ℕ) (x : A) (offset : ℕ) : Type 0 where
+pub record IsFramed {A : Type 0} (word : List ℕ) (f : Form A) (bytes : List ℕ) (x : A)
+    (offset : ℕ) : Type 0 where
   pub footer : List ℕ
   pub file : IsFile word bytes footer offset
   pub shown : f.Shows x footer
@@ -37,13 +47,17 @@ footer_len bytes = from_le_bytes w32 (slice_range bytes (length bytes - 8) (leng
 abbrev pub footer_bytes : List ℕ → ℕ → Option (Framed (List ℕ))
 footer_bytes bytes n =
     if nat_lt (length bytes - 12) n then None
-    else Some (record { value = slice_range bytes (length bytes - 8 - n) (length bytes - 8); offset = length bytes - 8 - n })
+    else Some (record {
+      value = slice_range bytes (length bytes - 8 - n) (length bytes - 8);
+      offset = length bytes - 8 - n;
+    })
 
 -- A file begins and ends with a word of four bytes.
 abbrev pub has_ends : List ℕ → List ℕ → Bool
 has_ends word bytes = bytes_eq (take 4 bytes) word && bytes_eq (drop (length bytes - 4) bytes) word
 
--- The bytes of a file's footer: none where the file has under twelve bytes, an end is not the word, or the footer has no room.
+-- The bytes of a file's footer: none where the file has under twelve bytes, an end is not the word,
+-- or the footer has no room.
 abbrev pub cut_frame : List ℕ → List ℕ → Option (Framed (List ℕ))
 cut_frame word bytes =
     if nat_lt (length bytes) 12 then None

@@ -16,5 +16,6 @@ pair {A} {B} f g = record {
   Shows = λ p bytes. IsJoined (f.Shows p.0) (g.Shows p.1) bytes;
   Fits = λ p. f.Fits p.0 × g.Fits p.1;
   write = λ p. f.write p.0 ++ g.write p.1;
-  read = λ bytes. and_then {B = A × B} (f.read bytes) (λ x rest. answer_map (λ y. (x, y)) (g.read rest));
+  read = λ bytes. and_then {B = A × B} (f.read bytes)
+      (λ x rest. answer_map (λ y. (x, y)) (g.read rest));
 }

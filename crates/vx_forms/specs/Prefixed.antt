@@ -9,7 +9,8 @@ constant word = record {
   Shows = λ x bytes. bytes ≡ word;
   Fits = λ x. Unit {0};
   write = λ x. word;
-  read = λ bytes. and_then (front_bytes (length word) bytes) (λ front rest. if bytes_eq front word then whole tt rest else wrong);
+  read = λ bytes. and_then (front_bytes (length word) bytes)
+      (λ front rest. if bytes_eq front word then whole tt rest else wrong);
 }
 
 -- Bytes are these ones, and after them some with a property.

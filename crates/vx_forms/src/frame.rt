@@ -1,8 +1,8 @@
 //! Files between two equal words, with a footer and its length before the last one.
 
-ghost use Rattle.std.specs.Prelude.{◌≡◌, ℕ, List, ◌<◌, ◌^◌, ◌++◌, length, take, IfSome, IfNone, OnOk, OnErr, option_map};
+ghost use Rattle.std.specs.Prelude.{◌≡◌, ◌<◌, ◌^◌, ◌++◌, length, take, IfSome, IfNone, OnOk, OnErr, option_map};
 ghost use Rattle.vx_forms.specs.Frame as frame;
-ghost use Rattle.vx_forms.specs.Frame.{IsFile};
+ghost use Rattle.vx_forms.specs.Frame.{IsFile, HasNoFooter, EndsFile};
 ghost use Rattle.vx_forms.specs.FrameSeen.{frame_seen};
 
 use crate::writing::push_u32;
@@ -23,7 +23,7 @@ const AROUND: usize = 12;
 /// The footer of a file that begins and ends with `word`: none where the bytes are no such file.
 pub fn cut_frame<'a>(bytes: &'a [u8], word: &[u8; 4]) -> Option<FrameParts<'a>>
     ensures found { IfSome result (λ x. IsFile word.now bytes.now x.footer.now x.offset) }
-    ensures no_file { IfNone result ((footer : List ℕ) (offset : ℕ) → IsFile word.now bytes.now footer offset → ⊥) }
+    ensures no_file { IfNone result (HasNoFooter word.now bytes.now) }
     ensures cut { option_map frame_seen result ≡ frame.cut_frame word.now bytes.now }
 {
     find_footer(bytes, word.as_slice())
@@ -58,7 +58,7 @@ fn find_footer<'a>(bytes: &'a [u8], word: &[u8]) -> Option<FrameParts<'a>>
 pub fn push_frame_end(out: &mut Vec<u8>, footer: &[u8], word: &[u8; 4]) -> Result<(), AllocError>
     requires { length footer.now < 2 ^ 32 }
     ensures written { OnOk result (out.new.items ≡ out.old.items ++ frame.frame_end word.now footer.now) }
-    ensures file { OnOk result ((body : List ℕ) → out.old.items ≡ word.now ++ body → IsFile word.now out.new.items footer.now (length out.old.items)) }
+    ensures file { OnOk result (EndsFile word.now out.old.items footer.now out.new.items) }
     ensures unchanged { OnErr result (out.new.items ≡ out.old.items) }
 {
     let start = out.len();

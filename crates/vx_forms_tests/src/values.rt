@@ -1,3 +1,4 @@
+use crate::sizes::take_sizes;
 use std::test::Fail;
 use vx_forms::{
     ReadError, push_octets, push_text, push_u8, push_u32, push_u64, take_constant, take_count,
@@ -67,5 +68,29 @@ fn written(rt: HostRuntime) -> Result<(), Fail> {
     push_text(&mut out, "ab")?;
     let bytes = b"\x01\x02\0\0\0\x03\0\0\0\0\0\0\0\x01\0\0\0\xff\x02\0\0\0ab";
     assert_eq!(rt; out.as_slice(), bytes.as_slice());
+    Ok(())
+}
+
+#[test]
+fn sizes(rt: HostRuntime) -> Result<(), Fail> {
+    let bytes = b"SIZE\x02\0\0\0\x05\0\0\0\0\0\0\0\x06\0\0\0\0\0\0\0\x07";
+    let read = take_sizes(rt.alloc(), bytes)?;
+    assert!(rt; read.is_ok());
+    if let Ok((sizes, rest)) = read {
+        assert_eq!(rt; sizes.as_slice(), [5, 6].as_slice());
+        assert_eq!(rt; rest, b"\x07".as_slice());
+    }
+    assert!(rt;
+        matches!(
+            take_sizes(rt.alloc(), b"SIZE\x02\0\0\0\x05")?,
+            Err(ReadError::Short)
+        )
+    );
+    assert!(rt;
+        matches!(
+            take_sizes(rt.alloc(), b"SIZE\xff\xff\0\0")?,
+            Err(ReadError::Wrong)
+        )
+    );
     Ok(())
 }
