@@ -10,12 +10,12 @@ const NUMBERS: [u8; 16] = [
     254, 255, 255, 255, 255, 255, 255, 255, 1, 2, 3, 4, 5, 6, 7, 8,
 ];
 
-// Those bytes, handed out here so that no other proof reads them.
+// Returns those bytes, so that no other proof unfolds the constant.
 fn number_bytes() -> &'static [u8] {
     &NUMBERS
 }
 
-// Whether a row of so many numbers of a kind has this value.
+// Whether a row of n numbers of a kind has this value.
 fn is_number(alloc: Global, kind: PType, len: usize, index: usize, value: PValue) -> bool {
     let made = numbers(alloc, number_bytes(), kind, len);
     has_row(alloc, made, index, true, RowValue::Primitive(value))
@@ -44,7 +44,7 @@ fn rows_are_numbers_lowest_byte_first(rt: HostRuntime) {
     }
 }
 
-// The first of two numbers, for so many cells.
+// The first of two numbers, for a budget of n cells.
 fn first_for(alloc: Global, budget: u64) -> Result<RowValue, ArrayError> {
     let (_, value) = row_of(alloc, numbers(alloc, &[1, 2], PType::U8, 2), 0, budget);
     value
@@ -58,7 +58,7 @@ fn a_number_takes_a_cell(rt: HostRuntime) {
 
 const INTEGERS: [u8; 8] = [1, 0, 0, 0, 2, 0, 0, 0];
 
-// Why so many integers that may be null are not made of a buffer and a validity, if they are not.
+// Why n nullable integers are refused with a buffer and a validity, if they are.
 fn refusal(
     alloc: Global,
     buffer: BufferHandle,
@@ -115,13 +115,13 @@ fn has_buffer(array: &Array, bytes: Option<&[u8]>) -> bool {
     }
 }
 
-// Whether an array is a node of this encoding, of so many rows and children.
+// Whether an array is a node of this encoding, of n rows and children.
 fn has_parts(array: &Array, id: &str, len: usize, children: usize) -> bool {
     has_id(array, id) && array.len() == len && children_of(array) == children
 }
 
-/// Whether an array that is made first is a node of this encoding, of so many rows and children, and of one buffer of
-/// these bytes, or of none.
+/// Whether an array was made and is a node of this encoding, of n rows and children, and of one buffer of these
+/// bytes, or of none.
 pub(crate) fn is_node(
     made: Made,
     id: &str,
@@ -139,7 +139,7 @@ pub(crate) fn is_node(
     }
 }
 
-// How many bytes an array of numbers lends.
+// How many bytes the values of a primitive array have.
 fn borrowed(array: &Array) -> usize {
     match array.body() {
         Body::Primitive(numbers) => numbers.values().len(),
@@ -147,7 +147,7 @@ fn borrowed(array: &Array) -> usize {
     }
 }
 
-// Whether an array is a sound one of integers that are never null.
+// Whether an array is a sound one of non-nullable integers.
 fn are_integers(array: &Array) -> bool {
     matches!(
         array.dtype(),
@@ -155,7 +155,7 @@ fn are_integers(array: &Array) -> bool {
     ) && array.validate().is_ok()
 }
 
-// Whether an array that is made first is a sound one of integers that are never null, and lends so many bytes.
+// Whether an array was made, and is a sound one of non-nullable integers with n bytes of values.
 fn is_of_integers(made: Made, bytes: usize) -> bool {
     match made {
         Ok(array) => {
@@ -167,7 +167,7 @@ fn is_of_integers(made: Made, bytes: usize) -> bool {
     }
 }
 
-// A copy of so many integers.
+// A copy of n integers.
 fn copied(alloc: Global, bytes: &[u8], len: usize) -> Made {
     copy_of(alloc, numbers(alloc, bytes, PType::I32, len))
 }
@@ -190,7 +190,7 @@ fn list_of_one(alloc: Global) -> Result<Arrays, ArrayError> {
     Ok(arrays)
 }
 
-// How many arrays it lends, and hands over.
+// How many arrays it has, borrowed and by value.
 fn listed(alloc: Global) -> Result<(usize, usize), ArrayError> {
     let arrays = list_of_one(alloc)?;
     let count = arrays.len();

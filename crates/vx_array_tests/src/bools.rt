@@ -34,12 +34,12 @@ const BITS: [bool; 16] = [
 
 const BYTES: [u8; 2] = [0x2c, 0x81];
 
-// So many flags of these bytes.
+// n flags of these bytes.
 fn flags_from(alloc: Global, offset: usize, len: usize) -> Made {
     flags(alloc, &BYTES, offset, len)
 }
 
-// Whether so many flags of these bytes are a node.
+// Whether n flags of these bytes are a node.
 fn is_made(alloc: Global, offset: usize, len: usize) -> bool {
     is_node(
         flags_from(alloc, offset, len),
@@ -50,7 +50,7 @@ fn is_made(alloc: Global, offset: usize, len: usize) -> bool {
     )
 }
 
-// Whether the last of so many flags is the last of so many bits.
+// Whether the last of n flags is the last of n bits.
 fn is_bit(alloc: Global, offset: usize, len: usize, bits: &[bool]) -> bool {
     match (bits.last(), len.checked_sub(1)) {
         (Some(bit), Some(last)) => {
@@ -66,7 +66,7 @@ fn is_bit(alloc: Global, offset: usize, len: usize, bits: &[bool]) -> bool {
     }
 }
 
-// Whether so many flags after so many bits are made, and the last is its bit.
+// Whether n flags after n bits are made, and the last is its bit.
 fn is_last(alloc: Global, offset: usize, len: usize) -> bool {
     match BITS.get(..offset.saturating_add(len)) {
         Some(bits) => {
@@ -76,12 +76,12 @@ fn is_last(alloc: Global, offset: usize, len: usize) -> bool {
     }
 }
 
-// Why so many flags after so many bits are not made, if they are not.
+// Why n flags after n bits are refused, if they are.
 fn flags_refusal(alloc: Global, offset: usize, len: usize) -> Option<ArrayError> {
     flags_from(alloc, offset, len).err()
 }
 
-// Whether after so many bits each number of flags up to this one is made, and one more is not.
+// Whether after n bits each number of flags up to this one is made, and one more is not.
 fn are_read_from(alloc: Global, offset: usize, most: u8) -> bool {
     for len in 0..=most {
         if !is_last(alloc, offset, usize::from(len)) {
@@ -111,14 +111,14 @@ fn flags_past_the_end_are_refused(rt: HostRuntime) {
     }
 }
 
-// The validity of four rows, of which the first and the third are there.
+// The validity of four rows, of which the first and the third are valid.
 fn validity(alloc: Global) -> Made {
     flags(alloc, &[5], 0, 4)
 }
 
 const FOUR: [u8; 16] = [1, 0, 0, 0, 2, 0, 0, 0, 3, 0, 0, 0, 4, 0, 0, 0];
 
-// Four numbers that may be null, with a validity.
+// Four nullable numbers, with a validity.
 fn numbers_with(alloc: Global, validity: Validity) -> Made {
     let values = buffer_of(alloc, &FOUR, aligned_to(2));
     let (values, validity) = both(values, validity)?;
@@ -132,12 +132,12 @@ fn numbers_with(alloc: Global, validity: Validity) -> Made {
     )
 }
 
-// Four flags that may be null, with a validity.
+// Four nullable flags, with a validity.
 fn nullable_flags(alloc: Global, byte: u8, validity: Validity) -> Made {
     flags_with(alloc, &[byte], 0, Nullability::Nullable, validity)
 }
 
-// Four flags, or numbers, of which the first and the third are there.
+// Four flags, or numbers, of which the first and the third are valid.
 fn with_validity(alloc: Global, numbers: bool) -> Made {
     let validity = some(validity(alloc));
     if numbers {
@@ -158,7 +158,7 @@ fn is_null(alloc: Global, numbers: bool, index: usize) -> bool {
     )
 }
 
-// Whether a row of four flags, or numbers, is there and has this value.
+// Whether a row of four flags, or numbers, is valid and has this value.
 fn is_there(alloc: Global, numbers: bool, index: usize, value: RowValue) -> bool {
     has_row(alloc, with_validity(alloc, numbers), index, true, value)
 }
@@ -175,7 +175,7 @@ fn rows_are_null_where_the_validity_says_so(rt: HostRuntime) {
     }
 }
 
-// What is handed in as the validity of four rows.
+// What is given as the validity of four rows.
 #[derive(Clone, Copy, Debug)]
 enum Given {
     Flags,
@@ -199,17 +199,17 @@ fn validity_of(alloc: Global, given: Given) -> Made {
     }
 }
 
-// Why four flags that may be null are not made with it, if they are not.
+// Why four nullable flags are refused with it, if they are.
 fn refusal_of_flags(alloc: Global, given: Given) -> Option<ArrayError> {
     nullable_flags(alloc, 1, some(validity_of(alloc, given))).err()
 }
 
-// Why four numbers that may be null are not made with it, if they are not.
+// Why four nullable numbers are refused with it, if they are.
 fn refusal_of_numbers(alloc: Global, given: Given) -> Option<ArrayError> {
     numbers_with(alloc, some(validity_of(alloc, given))).err()
 }
 
-// Why four flags that are never null are not made with it, if they are not.
+// Why four non-nullable flags are refused with it, if they are.
 fn refusal_without_nulls(alloc: Global, given: Given) -> Option<ArrayError> {
     let validity = some(validity_of(alloc, given));
     flags_with(alloc, &[1], 0, Nullability::NonNullable, validity).err()
@@ -237,7 +237,7 @@ fn a_validity_is_flags_that_are_never_null(rt: HostRuntime) {
     }
 }
 
-// Whether the validity of so many rows of which none is there has these bytes, and its last row says so.
+// Whether the validity of n rows that are all null has these bytes, and its last row says so.
 fn is_all_invalid(alloc: Global, len: usize, bytes: &[u8]) -> bool {
     let made = validity_all_invalid(alloc, len);
     let last = len.saturating_sub(1);

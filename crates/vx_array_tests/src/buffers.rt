@@ -5,7 +5,7 @@ use std::alloc::Global;
 use std::hash::{FoldHasher, Hasher};
 use vx_buffer::{Alignment, BufferError, BufferHandle, BufferHandles, ByteBuffer, ByteBuffers};
 
-// The exponent of an alignment of so many bytes, if there is one.
+// The exponent of an alignment of n bytes, if there is one.
 fn exponent_of(bytes: usize) -> Option<u8> {
     match Alignment::new(bytes) {
         Some(alignment) => Some(alignment.exponent()),

@@ -27,7 +27,7 @@ fn dtype_of(rows: Rows) -> DType {
     }
 }
 
-// An identifier that nothing reads, and bytes of metadata.
+// An unregistered identifier, and bytes of metadata.
 fn named(alloc: Global, metadata: &[u8]) -> Result<(Id, Blob), ArrayError> {
     match both(Id::new(alloc, "x.new"), Blob::copy_from(alloc, metadata)) {
         Ok(parts) => Ok(parts),
@@ -35,7 +35,7 @@ fn named(alloc: Global, metadata: &[u8]) -> Result<(Id, Blob), ArrayError> {
     }
 }
 
-// A buffer of three bytes, aligned to two to the exponent.
+// A buffer of three bytes, of this alignment exponent.
 fn one_buffer(alloc: Global, exponent: u8) -> Result<BufferHandles, ArrayError> {
     let buffer = buffer_of(alloc, b"abc", aligned_to(exponent))?;
     let mut buffers = BufferHandles::new(alloc);
@@ -45,7 +45,7 @@ fn one_buffer(alloc: Global, exponent: u8) -> Result<BufferHandles, ArrayError> 
     }
 }
 
-// So many rows of which nothing is known, by this metadata and a buffer of this exponent.
+// n opaque rows, with this metadata and a buffer of this exponent.
 fn unknown(alloc: Global, rows: Rows, len: usize, metadata: &[u8], exponent: u8) -> Made {
     match both(named(alloc, metadata), one_buffer(alloc, exponent)) {
         Ok(((id, metadata), buffers)) => {
@@ -78,7 +78,7 @@ fn keeps(array: &Array, metadata: &[u8]) -> bool {
     }
 }
 
-// Whether an array that is made first does.
+// Whether an array was made and does.
 fn is_kept(made: Made, metadata: &[u8]) -> Result<bool, ArrayError> {
     let array = made?;
     let kept = keeps(&array, metadata);
@@ -135,7 +135,7 @@ fn keeps_data(kept: &ForeignArrayData) -> bool {
     kept.metadata().as_slice() == [0xaa].as_slice() && is_that_buffer(kept.buffers())
 }
 
-// Whether data that is made first is kept so.
+// Whether data that was made is kept so.
 fn is_data_kept(made: Result<ForeignArrayData, ArrayError>) -> bool {
     match made {
         Ok(kept) => {
@@ -147,7 +147,7 @@ fn is_data_kept(made: Result<ForeignArrayData, ArrayError>) -> bool {
     }
 }
 
-// A clone of data that is made first.
+// A clone of data that was made.
 fn data_clone(
     alloc: Global,
     made: Result<ForeignArrayData, ArrayError>,
@@ -170,7 +170,7 @@ fn clones_have_the_fields_of_their_source(rt: HostRuntime) {
     assert!(rt; is_data_kept(data_clone(alloc, data(alloc))));
 }
 
-// Whether two arrays that are made first are equal.
+// Whether two arrays that were made are equal.
 fn are_equal(one: Made, other: Made) -> Result<bool, ArrayError> {
     let (one, other) = both(one, other)?;
     let equal = one.array_eq(&other);
@@ -179,7 +179,7 @@ fn are_equal(one: Made, other: Made) -> Result<bool, ArrayError> {
     Ok(equal)
 }
 
-// Whether three numbers of which nothing is known are equal to others of these parts.
+// Whether three opaque numbers are equal to others of these parts.
 fn is_equal(
     alloc: Global,
     rows: Rows,
@@ -237,7 +237,7 @@ fn dictionary(alloc: Global, codes: Made, values: Made) -> Made {
     DictArray::try_new(alloc, codes, values, false)
 }
 
-// Why it is not made, if it is not.
+// Why it is refused, if it is.
 fn refusal(alloc: Global, codes: Made, values: Made) -> Option<ArrayError> {
     dictionary(alloc, codes, values).err()
 }

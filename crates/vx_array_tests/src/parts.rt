@@ -17,7 +17,7 @@ pub fn some(made: Made) -> Result<Option<Array>, ArrayError> {
     }
 }
 
-/// The alignment of two to this exponent, or none.
+/// The alignment of this exponent, or none.
 pub fn aligned_to(exponent: u8) -> Alignment {
     match Alignment::from_exponent(exponent) {
         Some(alignment) => alignment,
@@ -43,7 +43,7 @@ fn alignment_of(kind: PType) -> Alignment {
     }
 }
 
-/// So many numbers of a kind that are never null.
+/// n numbers of a kind that are never null.
 pub fn numbers(alloc: Global, bytes: &[u8], kind: PType, len: usize) -> Result<Array, ArrayError> {
     let values = buffer_of(alloc, bytes, alignment_of(kind))?;
     PrimitiveArray::try_new(alloc, values, kind, Nullability::NonNullable, len, None)
@@ -55,7 +55,7 @@ pub fn flags(alloc: Global, bytes: &[u8], offset: usize, len: usize) -> Result<A
     BoolArray::try_new(alloc, bits, offset, len, Nullability::NonNullable, None)
 }
 
-// Whether a row is there, if that is known and there is such a row.
+// Whether a row is valid, if that is known and there is such a row.
 fn is_there(array: &Array, index: usize) -> Option<bool> {
     if index >= array.len() {
         return None;
@@ -63,7 +63,7 @@ fn is_there(array: &Array, index: usize) -> Option<bool> {
     array.is_valid(index)
 }
 
-/// The value of a row, for so many cells.
+/// The value of a row, for a budget of n cells.
 pub fn value_at(
     alloc: Global,
     array: &Array,
@@ -76,7 +76,7 @@ pub fn value_at(
     array.value_at(alloc, index, budget)
 }
 
-/// Whether a row of an array that is made first is there, if that is known, and its value, for so many cells.
+/// Whether a row of an array that was made is valid, if that is known, and its value, for a budget of n cells.
 pub fn row_of(
     alloc: Global,
     made: Made,
@@ -94,13 +94,13 @@ pub fn row_of(
     }
 }
 
-/// Whether a row of an array that is made first is there or not, and has this value.
+/// Whether a row of an array that was made is valid or not, and has this value.
 pub fn has_row(alloc: Global, made: Made, index: usize, there: bool, value: RowValue) -> bool {
     let (is_there, found) = row_of(alloc, made, index, 1);
     is_there == Some(there) && found == Ok(value)
 }
 
-/// A copy of an array that is made first.
+/// A copy of an array that was made.
 pub fn copy_of(alloc: Global, made: Made) -> Made {
     let array = made?;
     let copy = array.clone(alloc);

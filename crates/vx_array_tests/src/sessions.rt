@@ -175,7 +175,7 @@ fn parts_of_fours(alloc: Global) -> Parts {
     }
 }
 
-// A copy of parts that are made first.
+// A copy of parts that were made.
 fn copied_parts(alloc: Global, parts: Parts) -> Parts {
     let parts = parts?;
     let copy = parts.clone(alloc);
@@ -183,7 +183,7 @@ fn copied_parts(alloc: Global, parts: Parts) -> Parts {
     copy
 }
 
-// Whether parts that are made first are those of the four numbers.
+// Whether parts that were made are those of the four numbers.
 fn have_fours(parts: Parts) -> Result<bool, RegistryError> {
     let parts = parts?;
     let fours = are_fours(&parts);
@@ -258,7 +258,7 @@ fn parts_of_nulls(alloc: Global) -> Result<ArrayDeserialization, TypeError> {
     Ok(ArrayDeserialization::new(id, DType::Null, 3, metadata, buffers, Arrays::new(alloc)))
 }
 
-// Whether that is handed on.
+// Whether that is passed on.
 fn are_handed_on(alloc: Global) -> Result<bool, TypeError> {
     let parts = parts_of_nulls(alloc)?;
     let handed_on = parts.serialized_id.as_str() == "vortex.null" && parts.len == 3;
@@ -271,7 +271,7 @@ fn what_is_built_of_is_handed_on(rt: HostRuntime) {
     assert!(rt; are_handed_on(rt.alloc()) == Ok(true));
 }
 
-// Whether a session allows what is unknown, at first and once it is told so.
+// Whether a session allows unknown identifiers, at first and once that is set.
 fn allows_unknown(alloc: Global) -> (bool, bool) {
     let mut session = VortexSession::new(ArraySession::empty(alloc), ExtSession::new(alloc));
     let first = session.allows_unknown();

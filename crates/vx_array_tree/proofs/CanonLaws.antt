@@ -51,7 +51,7 @@ module _ (sp : Spelling) where
   foreign_labels d n (more (node h us) ts) = (record { encoding = refl; dtype = refl; len = refl }, foreign_labels d n ts)
 
   mutual
-    -- An array of which nothing is known is normal and sound.
+    -- An opaque array is normal and sound.
     pub foreign_normal : (d : Typ) (n : ℕ) (t : Tree) → IsNormal (as_foreign sp d n t)
     foreign_normal d n (node h ts) = (record { stats = refl; children = foreign_labels d n ts }, all_foreign_normal d n ts)
 
@@ -191,7 +191,7 @@ module _ (sp : Spelling) where
   entries_native (B.listview x) ds ts f = tt
   entries_native _ ds ts f = tt
 
-  -- What says where rows are is known of what is read back where it was.
+  -- Control children are known of what is read back where it was.
   node_controlled : (d : Typ) (h : Head) (ts : Trees) (ds : List Typ) → IsRetyped h.dtype d → IsControlled h ts → IsControlled (canon_head d h) (canon_all sp ds ts)
   node_controlled d h ts ds r c = record {
     controls = λ i u e g.

@@ -21,7 +21,7 @@ pub record IsGood (d : Typ) (v : Value) : Type 0 where
 abbrev pub IsGoodVariant : Value → Type 0
 IsGoodVariant v = IsGood variants v
 
--- A structure whose fields are such values.
+-- A struct whose fields are such values.
 pub record IsGoodRaw (r : Raw) : Type 0 where
   pub fits : FitBy r.values r.types
   pub plain : have_opaque r.values ≡ false
@@ -62,7 +62,7 @@ list_good e vs f p =
 
 -- ---- structures
 
--- The structure that a value is, is of such fields.
+-- The struct that a value is, is of such fields.
 no_structure : (d : Typ) (v : Value) (r : Raw) → IsGood d v → structure_in d v ≡ Some r → IsGoodRaw r
 no_structure (node (K.structure ns x) ts) (node tuple vs) r g e =
     subst (λ (z : Raw). IsGoodRaw z) (same_Some (record { names = ns; types = ts; values = vs }) r e) (record { fits = g.fits; plain = g.plain })
@@ -72,7 +72,7 @@ raw_good : (d : Typ) (v : Value) (r : Raw) → IsGood d v → raw_structure d v 
 raw_good (node (K.variant m) ts) (node (variant e0) (more v vs)) r g e = no_structure e0 v r (record { fits = g.fits.1.0; plain = or_left (has_opaque v) (have_opaque vs) g.plain }) e
 raw_good d v r g e = no_structure d v r g e
 
--- A field of a name, where there is one.
+-- A field of a name, if any.
 pub record IsGoodField (f : Typ × Value) : Type 0 where
   pub good : IsGood f.0 f.1
 
@@ -190,7 +190,7 @@ merge_good (node (K.list m) (more e end)) (node tuple vs) fb g z a = list_good e
 merge_good (node (K.fixed_size_list w m) (more e end)) (node tuple vs) fb g z a = list_good e vs g.fits.1 g.plain
 merge_good d v fb g z a = merged_good v d (fallback_structure fb) g a
 
--- A variant's structure as a fallback.
+-- A variant's struct as a fallback.
 pub fallback_good : (m : Nullability) (v : Value) → IsGood (node (K.variant m) end) v → IsGoodFallback (raw_structure variants v)
 fallback_good m (node null vs) g = tt
 fallback_good m (node (variant e) vs) g = from_raw (raw_structure variants (node (variant e) vs)) (λ r q. raw_good variants (node (variant e) vs) r (record { fits = g.fits; plain = g.plain }) q)

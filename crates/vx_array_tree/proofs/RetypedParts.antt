@@ -62,7 +62,7 @@ same_width m _ = refl
 variant_inj : (v w : Variants.Metadata) → M.variant v ≡ M.variant w → v ≡ w
 variant_inj v w e = cc
 
--- The rows of structures by the number of their fields, and of unions by their tags.
+-- The rows of structs by the number of their fields, and of unions by their tags.
 abbrev struct_rows : ℕ → ℕ → List Rows → Rows
 struct_rows n w rs =
     by_validity_with n (Structs.structure_valid (length rs == suc w) rs)
@@ -119,7 +119,7 @@ allows_retyped E.struct d f v k r a =
 allows_retyped E.dict d f (M.dict v) k r a = λ q. retyped_nullable d f r (a q)
 allows_retyped _ d f v k r a = tt
 
--- A type's nullability tells nothing of which children say where rows are.
+-- A type's nullability tells nothing of which children are control children.
 pub same_control : (e : Encoding) (d f : Typ) (k i : ℕ) → IsRetyped d f → is_control e f k i ≡ is_control e d k i
 same_control E.struct d f k i r =
     let w : Structs.width_of f ≡ Structs.width_of d = ap (λ z. Structs.width_of z) (sym r.retyped) ∙ same_width r.nullability_is d in

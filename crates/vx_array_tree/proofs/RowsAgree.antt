@@ -1,5 +1,5 @@
--- Whether a row is there agrees with its value, in every tree: a row that is null has the value null, one that
--- is there another, and one of which that is not known is opaque.
+-- Validity agrees with values, in every tree: a null row has the value null, a valid one another, and one of unknown
+-- validity is opaque.
 use Rattle.std.proofs.Common.{ℕ, ◌≡◌, List, [], ◌∷◌, Option, Some, None, Bool, true, false, refl, sym, subst, if◌then◌else◌, unwrap_or}
 use Rattle.vx_trees.specs.Rose.{Roses, node, end, more}
 use Rattle.vx_types.specs.Kind as K
@@ -20,7 +20,7 @@ use Rattle.vx_array_tree.specs.Rows.{Rows, first, rest, second, index_at, validi
 use Rattle.vx_array_tree.specs.Table.{node_rows}
 use Rattle.vx_array_tree.specs.Tree.{Tree, Trees, places, rows_of, rows_below}
 
--- What a row's value is, by whether the row is there.
+-- What a row's value is, by whether the row is valid.
 abbrev pub AgreesAt : Option Bool → Value → Type 0
 AgreesAt None v = v ≡ lone opaque
 AgreesAt (Some false) v = v ≡ lone null

@@ -85,7 +85,7 @@ planned m n (more c end) p f = core_fits m n c end (exactly_is (place (node (K.v
 planned m n (more c (more s us)) p f =
     both_fit m n (label s).dtype c s us (exactly_is (place (node (K.variant m) end) n ∷ place (label s).dtype n ∷ []) (suc (suc (count us))) (places (more c (more s us))) p) f
 
--- A sound node of variants has rows that fit its type, if its children have.
+-- A sound variant node has rows that fit its type, if its children have.
 pub variants_fit : (d : Typ) (n : ℕ) (ts : Trees) → Variants.plan d n (Variants.metadata_of (places ts)) (count ts) ≡ Some (places ts) → FitAll ts → FitRows d n (Variants.rows n (Variants.metadata_of (places ts)) (rows_below ts))
 variants_fit (node (K.variant m) end) n ts p f = planned m n ts p f
 variants_fit _ n ts p f = absurd (cc)

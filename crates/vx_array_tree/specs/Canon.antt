@@ -42,7 +42,7 @@ abbrev pub foreign_head : Spelling → Typ → ℕ → Head → Trees → Head
 foreign_head spelled d n h ts = untold d n (B.foreign (spelled h ts))
 
 abbrev mutual
-  -- An array of which nothing is known: each node is the foreign node of its parts, of one type and length.
+  -- An opaque array: each node is the foreign node of its parts, of one type and length.
   pub as_foreign : Spelling → Typ → ℕ → Tree → Tree
   as_foreign spelled d n (node h ts) = node (foreign_head spelled d n h ts) (all_foreign spelled d n ts)
 

@@ -1,5 +1,5 @@
 -- The encodings, each in a file of its own that says all of it: what a node holds beside its children, its
--- identifier, its metadata, its buffers, the places of its children, which of them say where rows are, what its
+-- identifier, its metadata, its buffers, the places of its children, which of them are control children, what its
 -- buffers and its content are to be, and its rows. Foreign nodes have a file beside them.
 pub mod Nulls
 pub mod Bools

@@ -25,19 +25,19 @@ abbrev pub each_wrapped : Typ → Values → Values
 each_wrapped d end = end
 each_wrapped d (more v vs) = more (wrapped d v) (each_wrapped d vs)
 
--- A structure that is not null: its fields' names, types and values.
+-- A struct that is not null: its fields' names, types and values.
 pub record Raw : Type 0 where
   pub names : List (List ℕ)
   pub types : Roses Kind
   pub values : Values
 
--- The structure that a value of a type is.
+-- The struct that a value of a type is.
 abbrev pub structure_in : Typ → Value → Option Raw
 structure_in (node (structure ns m) ts) (node tuple vs) = Some (record { names = ns; types = ts; values = vs })
 structure_in _ _ = None
 
--- The structure that a value is, itself or inside a variant. The type tells which of the two: an extension over Variant is
--- no variant here.
+-- The struct that a value is, itself or inside a variant. The type tells which of the two: an extension over Variant
+-- is no variant here.
 abbrev pub raw_structure : Typ → Value → Option Raw
 raw_structure (node (variant_kind m) ts) (node (variant e) (more v vs)) = structure_in e v
 raw_structure d v = structure_in d v
@@ -48,7 +48,7 @@ raw_field name [] ts vs = None
 raw_field name (n ∷ ns) (more t ts) (more v vs) = if bytes_eq name n then Some (t, v) else raw_field name ns ts vs
 raw_field name (n ∷ ns) _ _ = None
 
--- The structure in the first field of a name.
+-- The struct in the first field of a name.
 abbrev pub structure_at : List ℕ → Raw → Option Raw
 structure_at name raw = elim (raw_field name raw.names raw.types raw.values) [ None ↦ None | Some f ↦ raw_structure f.0 f.1 ]
 
@@ -72,13 +72,13 @@ abbrev pub is_named : List ℕ → List Named → Bool
 is_named name [] = false
 is_named name (x ∷ xs) = if bytes_eq name x.0 then true else is_named name xs
 
--- A field of a raw structure, as a variant; none where it is null.
+-- A field of a raw struct, as a variant; none where it is null.
 abbrev pub raw_value : Option (Typ × Value) → Option Value
 raw_value None = None
 raw_value (Some (d, node null vs)) = None
 raw_value (Some (d, v)) = Some (wrapped d v)
 
--- The fields of a raw structure whose names are not given yet.
+-- The fields of a raw struct whose names are not given yet.
 abbrev pub others : List Named → Raw → List (List ℕ) → List Named
 others has raw [] = []
 others has raw (n ∷ ns) =
@@ -99,33 +99,33 @@ abbrev pub values_of : List Named → Values
 values_of [] = end
 values_of (x ∷ xs) = more x.1 (values_of xs)
 
--- A variant of a structure of variants, none of which, nor the structure, may be null.
+-- A variant of a struct of variants, none of which, nor the struct, may be null.
 abbrev pub structure_of : List Named → Value
 structure_of fs = variant_of (node (structure (names_of fs) NonNullable) (types_of fs)) (node tuple (values_of fs))
 
--- The fields that are given, and then those of the raw structure that are not.
+-- The fields that are given, and then those of the raw struct that are not.
 abbrev pub joined : List (List ℕ × Option Value) → Raw → Value
 joined fs raw = let has = given fs fs in structure_of (has ++ others has raw raw.names)
 
--- A tuple over a raw structure: where it is a structure's, the two merged; else it is wrapped.
+-- A tuple over a raw struct: where it is a struct's, the two merged; else it is wrapped.
 abbrev pub over : Typ → Option Raw → Value → (List (List ℕ) → Roses Kind → Raw → List (List ℕ × Option Value)) → Value
 over (node (structure ns m) ts) (Some raw) v fields = joined (fields ns ts raw) raw
 over d _ v fields = wrapped d v
 
 abbrev mutual
-  -- A value of a type over a raw structure, as a variant; none where it is null.
+  -- A value of a type over a raw struct, as a variant; none where it is null.
   pub merged : Value → Typ → Option Raw → Option Value
   merged (node null vs) d raw = None
   merged (node tuple vs) d raw = Some (over d raw (node tuple vs) (λ ns ts r. merged_fields vs ns ts r))
   merged (node m vs) d raw = Some (wrapped d (node m vs))
 
-  -- Each field of a structure over what a raw structure has under its name.
+  -- Each field of a struct over what a raw struct has under its name.
   pub merged_fields : Values → List (List ℕ) → Roses Kind → Raw → List (List ℕ × Option Value)
   merged_fields end ns ts raw = []
   merged_fields (more v vs) ns ts raw =
       elim ns [ [] ↦ [] | n ∷ ms ↦ elim ts [ end ↦ [] | more d ds ↦ (n, merged v d (structure_at n raw)) ∷ merged_fields vs ms ds raw ] ]
 
--- The structure that a variant holds, where there is one.
+-- The struct that a variant holds, if any.
 abbrev pub fallback_structure : Option Value → Option Raw
 fallback_structure None = None
 fallback_structure (Some v) = raw_structure variants v
@@ -139,8 +139,8 @@ or_null (Some v) = v
 abbrev pub variant_list : Typ → Values → Value
 variant_list e vs = variant_of (node (list NonNullable) (more variants end)) (node tuple (each_wrapped e vs))
 
--- A typed value over a fallback, which is a variant or none: null leaves the fallback; a list's elements are
--- wrapped; a variant is itself; a structure is merged with the fallback's; any other is wrapped.
+-- A typed value over a fallback, which is a variant or none: null leaves the fallback; a list's elements are wrapped;
+-- a variant is itself; a struct is merged with the fallback's; any other is wrapped.
 abbrev pub merge : Typ → Value → Option Value → Value
 merge d (node null vs) fallback = or_null fallback
 merge (node (list m) (more e end)) (node tuple vs) fallback = variant_list e vs

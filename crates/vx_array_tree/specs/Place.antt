@@ -26,7 +26,7 @@ place d n = record { dtype = d; len = n }
 abbrev pub numbers : PType → Typ
 numbers p = node (primitive p NonNullable) end
 
--- A validity child says of each of n rows whether it is there: true or false, and never null.
+-- A validity child says of each of n rows whether it is valid: true or false, and never null.
 abbrev pub validity_place : ℕ → Place
 validity_place n = place (node (boolean NonNullable) end) n
 

@@ -5,8 +5,8 @@ use Rattle.vx_array_tree.specs.Sound.{metadata_in, IsControlled}
 use Rattle.vx_array_tree.specs.Table.{encoding_of, IsFair, plan_of, lifted, Allows, Holds, Takes, Content}
 use Rattle.vx_array_tree.specs.Tree.{Trees, Head, places, encodings, rows_below}
 
--- A node over its children is of the shape that its encoding asks for: all that makes it sound but that what
--- says where its rows are is known, its content and its statistics.
+-- A node over its children has the shape that its encoding requires: all that makes it sound but that the control
+-- children are known, its content and its statistics.
 pub record IsWellShaped (h : Head) (ts : Trees) : Type 0 where
   pub fair : IsFair (encoding_of h.body) (metadata_in h ts)
   pub planned : plan_of (encoding_of h.body) h.dtype h.len (metadata_in h ts) (count ts) ≡ Some (lifted h.dtype h.len h.body (places ts))
@@ -18,13 +18,12 @@ pub record IsWellShaped (h : Head) (ts : Trees) : Type 0 where
 abbrev pub IsMisshaped : Head → Trees → Type 0
 IsMisshaped h ts = IsWellShaped h ts → ⊥
 
--- A node over its children is of the right shape, and a foreign node stands where it says where rows are.
+-- A node over its children is of the right shape, and a foreign node stands in a control child.
 pub record IsForeignControlled (h : Head) (ts : Trees) : Type 0 where
   pub shaped : IsWellShaped h ts
   pub foreign : IsControlled h ts → ⊥
 
--- A node over its children is of the right shape, what says where its rows are is known, and its content is
--- broken.
+-- A node over its children is of the right shape, the control children are known, and its content is broken.
 pub record HasBrokenContent (h : Head) (ts : Trees) : Type 0 where
   pub shaped : IsWellShaped h ts
   pub controlled : IsControlled h ts

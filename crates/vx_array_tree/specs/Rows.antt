@@ -1,18 +1,18 @@
--- What is known of an array by its rows: how many there are and, by index, whether a row is there, its value,
--- and how many cells it takes where it is printed. The type is not among it, so that arrays that differ by
--- their types' nullability alone have equal rows.
+-- What is known of an array by its rows: how many there are and, by index, whether a row is valid, its value, and how
+-- many cells it takes where it is printed. The type is not among it, so that arrays that differ by their types'
+-- nullability alone have equal rows.
 use Rattle.std.specs.Prelude.{ℕ, zero, suc, ◌+◌, ◌≡◌, List, [], ◌∷◌, Option, Some, None, Bool, true, false, unwrap_or, is_some, IsTrue}
 use Rattle.vx_trees.specs.Rose.{end, more}
 use Rattle.vx_types.specs.Value.{Value, Values, null, opaque, flag_in, lone, natural, value_cells}
 
--- Whether a row is there is true, false, or not known: none, where it ends at something opaque.
+-- Whether a row is valid is true, false, or not known: none, where it ends at something opaque.
 pub record Rows : Type 0 where
   pub len : ℕ
   pub valid : ℕ → Option Bool
   pub row : ℕ → Value
   pub cells : ℕ → ℕ
 
--- Rows of which nothing is known. They stand for a child that is missing; no sound node lacks one.
+-- Opaque rows. They stand for a missing child; no sound node lacks one.
 abbrev pub no_rows : Rows
 no_rows = record { len = 0; valid = λ i. None; row = λ i. lone opaque; cells = λ i. 1 }
 
@@ -34,12 +34,12 @@ second rs = first (rest rs)
 abbrev pub third : List Rows → Rows
 third rs = first (rest (rest rs))
 
--- Whether a row is there, by the flags of the validity that may stand: where none does, each row is.
+-- Whether a row is valid, by the flags of the validity that may stand: where none does, each row is.
 abbrev pub validity : List Rows → ℕ → Option Bool
 validity [] i = Some true
 validity (v ∷ vs) i = flag_in (v.row i)
 
--- A row's value, where the row is there.
+-- A row's value, where the row is valid.
 abbrev pub where_valid : Option Bool → (ℕ → Value) → ℕ → Value
 where_valid None value i = lone opaque
 where_valid (Some false) value i = lone null
@@ -101,6 +101,6 @@ index_at r i = unwrap_or (natural (r.row i)) 0
 abbrev pub IsIndex : Rows → ℕ → Type 0
 IsIndex r i = IsTrue (is_some (natural (r.row i)))
 
--- A row is there.
+-- A row is valid.
 abbrev pub IsThere : (ℕ → Option Bool) → ℕ → Type 0
 IsThere valid i = valid i ≡ Some true

@@ -36,13 +36,13 @@ pub record IsControlledBy (e : Encoding) (d : Typ) (ts : Trees) : Type 0 where
   pub controls : HasNativeControls e d ts
   pub entries : HasNativeEntries e ts
 
--- It is known where a node's rows are.
+-- A node's control children are known.
 abbrev pub IsControlled : Head → Trees → Type 0
 IsControlled h ts = IsControlledBy (encoding_of h.body) h.dtype ts
 
--- A node is sound over its children: its metadata is admitted; the children stand where they are planned, and
--- may stand; they are of encodings that may stand there; the buffers are right; what says where rows are is
--- known; the content is right; each statistic is of its type.
+-- A node is sound over its children: its metadata is admitted; the children stand where they are planned, and may
+-- stand; they are of encodings that may stand there; the buffers are right; control children are known; the content
+-- is right; each statistic is of its type.
 pub record IsSoundNode (h : Head) (ts : Trees) : Type 0 where
   pub fair : IsFair (encoding_of h.body) (metadata_in h ts)
   pub planned : plan_of (encoding_of h.body) h.dtype h.len (metadata_in h ts) (count ts) ≡ Some (lifted h.dtype h.len h.body (places ts))

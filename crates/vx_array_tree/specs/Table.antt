@@ -156,9 +156,9 @@ body_of E.dict (M.dict v) bs = bufferless (B.dict (Dicts.body_of v)) bs
 body_of E.foreign (M.foreign v) bs = Some (B.foreign (Foreigns.body_of v bs))
 body_of _ _ bs = None
 
--- Where the k children of a node are to stand, by its encoding, its type, its rows and its metadata: none
--- where the type is of another kind, so many children do not fit, or a length cannot be counted. This is the
--- one statement of the children's places.
+-- Where the k children of a node are to stand, by its encoding, its type, its rows and its metadata: none where the
+-- type is of another kind, k children do not fit, or a length cannot be counted. This is the one statement of the
+-- children's places.
 abbrev pub plan_of : Encoding → Typ → ℕ → Metadata → ℕ → Option (List Place)
 plan_of E.null d n M.empty k = Nulls.plan d n k
 plan_of E.bool d n (M.bool v) k = Bools.plan d n k
@@ -200,8 +200,8 @@ Holds d n (B.decimal x) = Decimals.Holds n x
 Holds d n (B.varbinview x) = VarBinViews.Holds n x
 Holds d n _ = Unit {0}
 
--- The parts of a node, before it is built, are of the shape that its encoding asks for: they hold a body
--- whose buffers are right, and so many children may stand.
+-- The parts of a node, before it is built, have the shape that its encoding requires: they hold a body whose buffers
+-- are right, and this number of children may stand.
 pub record IsShaped (e : Encoding) (d : Typ) (n : ℕ) (v : Metadata) (bs : List Buffer) (k : ℕ) : Type 0 where
   pub body : Body
   pub body_is : body_of e v bs ≡ Some body
@@ -213,7 +213,7 @@ abbrev pub Takes : Encoding → List Encoding → Type 0
 Takes E.map es = Maps.Takes es
 Takes _ es = Unit {0}
 
--- Whether child i of a node's k children says where rows are: a validity, codes, offsets, sizes or tags.
+-- Whether child i of a node's k children is a control child: a validity, codes, offsets, sizes or tags.
 abbrev pub is_control : Encoding → Typ → ℕ → ℕ → Bool
 is_control E.bool d k i = Bools.is_control i
 is_control E.primitive d k i = Primitives.is_control i

@@ -77,7 +77,7 @@ abbrev mutual
   rows_below end = []
   rows_below (more t ts) = rows_of t ∷ rows_below ts
 
--- Whether a row is there: none, where it ends at something opaque.
+-- Whether a row is valid: none, where it ends at something opaque.
 abbrev pub valid_at : Tree → ℕ → Option Bool
 valid_at t i = (rows_of t).valid i
 

@@ -1,4 +1,4 @@
-//! Arrays for contracts: plain trees with a case for each encoding, and all that is said of them.
+//! Arrays for contracts: plain trees with a case for each encoding, and the definitions on them.
 //!
 //! The crate has no code of its own. What it gives are definitions, to be cited in contracts, and their laws:
 //!

@@ -83,7 +83,7 @@ no_text = record {
   broken = λ c. (let x : false ≡ true = c.texts 0 (omega arith) refl in not_false x);
 }
 
--- A view past the elements in a row that is there.
+-- A view past the elements in a valid row.
 view_past_elements : BreaksContent (views false NonNullable (1 ∷ 3 ∷ []) (2 ∷ 1 ∷ []) [])
 view_past_elements = record {
   shaped = record { fair = record { offsets = refl; sizes = refl }; planned = refl; allows = λ e. absurd (omega arith); takes = tt; holds = tt };
@@ -99,7 +99,7 @@ other_tag = record {
   broken = λ c. (let x = c 0 (omega arith) refl in not_false x.named);
 }
 
--- A wrong prefix in a row that is there.
+-- A wrong prefix in a valid row.
 wrong_prefix : BreaksContent (texts 21 98)
 wrong_prefix = record {
   shaped = record { fair = tt; planned = refl; allows = λ e. refl; takes = tt; holds = record { length_is = refl; aligned = omega arith } };

@@ -40,7 +40,7 @@ parts id metadata = record { id = id; metadata = metadata; buffers = buffer (1 �
 abbrev pub foreign : Typ → ℕ → List Tree → Tree
 foreign d n ts = array d n (B.foreign (parts (codes "x.new") (7 ∷ []))) ts
 
--- Three numbers of which nothing is known.
+-- Three opaque numbers.
 abbrev pub unknown : Tree
 unknown = foreign (number_type P.U16 NonNullable) 3 []
 
@@ -63,7 +63,7 @@ opaque = lone V.opaque
 unknown_rows : first_rows 3 unknown ≡ opaque ∷ opaque ∷ opaque ∷ []
 unknown_rows = refl
 
--- Whether a row is there is known of none, whatever its type says and whatever stands below.
+-- Whether a row is valid is known of none, whatever its type says and whatever stands below.
 unknown_whether : (i : ℕ) → valid_at unknown i ≡ None
 unknown_whether i = refl
 
@@ -73,14 +73,14 @@ unknown_over_numbers i = refl
 unknown_cells : cells unknown 2 ≡ 1
 unknown_cells = refl
 
--- Of pairs it is known which are there.
+-- Of pairs it is known which are valid.
 pairs_are : first_rows 3 (half_known (bits 3 5)) ≡ tuple (opaque ∷ u16 7 ∷ []) ∷ null ∷ tuple (opaque ∷ u16 9 ∷ []) ∷ []
 pairs_are = refl
 
 pair_lacks : valid_at (half_known (bits 3 5)) 1 ≡ Some false
 pair_lacks = refl
 
--- A code names a value of which nothing is known.
+-- A code names an opaque value.
 value_unknown : valid_at (unknown_values (u8s NonNullable (2 ∷ 0 ∷ []) [])) 0 ≡ None
 value_unknown = refl
 
@@ -123,7 +123,7 @@ of_fixed = refl
 of_texts : controls E.varbin (text_type Nullable) ≡ true ∷ true ∷ true ∷ []
 of_texts = refl
 
--- A structure's validity, where one stands in front of two fields; with three fields none does.
+-- A struct's validity stands in front of two fields; with three fields none does.
 of_pairs : controls E.struct pair_type ≡ true ∷ false ∷ false ∷ []
 of_pairs = refl
 
@@ -155,7 +155,7 @@ over_numbers_sound = (
   (numbers_sound, tt),
 )
 
--- A field of a structure may be foreign, as long as the validity is not.
+-- A field of a struct may be foreign, as long as the validity is not.
 known_pairs : (i : ℕ) (t : Tree) → slice_get (roses_list (below (half_known (bits 3 5)))) i ≡ Some t → IsTrue (is_control E.struct pair_type 3 i) → HasNoForeign t
 known_pairs zero t e c = subst (λ (z : Tree). HasNoForeign z) (same_Some (bits 3 5) t e) (tt, tt)
 known_pairs (suc zero) t e c = absurd (false≢true c)
@@ -176,7 +176,7 @@ foreign_codes s = (s.0.controlled.controls 0 (foreign (number_type P.U8 NonNulla
 foreign_below_codes : IsSound (unknown_values (u8s NonNullable (2 ∷ 0 ∷ []) (foreign (flag_type NonNullable) 2 [] ∷ []))) → ⊥
 foreign_below_codes s = (s.0.controlled.controls 0 (u8s NonNullable (2 ∷ 0 ∷ []) (foreign (flag_type NonNullable) 2 [] ∷ [])) refl refl).1.0.0
 
--- Nor a structure's validity, nor offsets, nor tags.
+-- Nor a struct's validity, nor offsets, nor tags.
 foreign_validity : IsSound (half_known (foreign (flag_type NonNullable) 3 [])) → ⊥
 foreign_validity s = (s.0.controlled.controls 0 (foreign (flag_type NonNullable) 3 []) refl refl).0
 

@@ -27,16 +27,16 @@ seven = lone (V.number (N.I64 (pos 7)))
 abbrev yes : Value
 yes = variant_of (flag_type NonNullable) (flag true)
 
--- Fields of the typed structure come first; a null one leaves its name to the fallback, whose others follow.
+-- Fields of the typed struct come first; a null one leaves its name to the fallback, whose others follow.
 structures_merge : merge typed_type (tuple (i32 1 ∷ null ∷ [])) (Some (variant_of raw_type (tuple (yes ∷ seven ∷ []))))
     ≡ variant_of merged_type (tuple (variant_of (number_type P.I32 NonNullable) (i32 1) ∷ yes ∷ variant_of (number_type P.I64 NonNullable) seven ∷ []))
 structures_merge = refl
 
--- Over what holds no structure, a structure is wrapped as it stands.
+-- Over what holds no struct, a struct is wrapped as it stands.
 over_number : merge typed_type (tuple (i32 1 ∷ null ∷ [])) (Some (variant_of (number_type P.I64 NonNullable) seven)) ≡ variant_of typed_type (tuple (i32 1 ∷ null ∷ []))
 over_number = refl
 
--- The same under a name of a structure: one that is a structure too, itself or inside a variant, is merged in turn, and one
+-- The same under a name of a struct: one that is a struct too, itself or inside a variant, is merged in turn, and one
 -- of an extension over Variant is no variant.
 abbrev named_type : Typ → Typ
 named_type d = node (K.structure (codes "s" ∷ []) NonNullable) (more d end)

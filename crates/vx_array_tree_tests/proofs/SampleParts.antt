@@ -55,7 +55,7 @@ views_tell = refl
 dictionary_tells : told (dictionary 1) ≡ M.dict (record { values_len = 3; codes_ptype = P.U8; nullable_codes = Nullable; all_values_referenced = false })
 dictionary_tells = refl
 
--- Variants tell the type of the typed child, where one stands.
+-- Variants tell the type of the typed child, if any.
 variants_tell : told (variants (typed ∷ [])) ≡ M.variant (Some (number_type P.I32 Nullable))
 variants_tell = refl
 
@@ -106,7 +106,7 @@ fixed_places = refl
 endless_list : plan_of E.list (list_of (number_type P.U16 NonNullable)) (2 ^ 64 - 1) (M.list (record { elements_len = 3; offset_ptype = P.I32 })) 2 ≡ None
 endless_list = refl
 
--- A structure of one field has a child for it.
+-- A struct of one field has a child for it.
 field_missing : plan_of E.struct (node (K.structure (codes "a" ∷ []) NonNullable) (more (number_type P.U16 NonNullable) end)) 7 M.empty 0 ≡ None
 field_missing = refl
 
@@ -127,11 +127,11 @@ other_type = refl
 other_metadata : plan_of E.primitive (number_type P.I32 Nullable) 4 (M.bool 0) 0 ≡ None
 other_metadata = refl
 
--- The entries of maps are lists of structures of a key and a value.
+-- The entries of maps are lists of structs of a key and a value.
 map_places : plan_of E.map map_type 1 M.empty 1 ≡ Some (place (list_of entry_type) 1 ∷ [])
 map_places = refl
 
--- A validity stands in front of a structure's fields.
+-- A validity stands in front of a struct's fields.
 structs_places : plan_of E.struct (node (K.structure (codes "a" ∷ []) Nullable) (more (number_type P.U16 NonNullable) end)) 2 M.empty 2
     ≡ Some (validity_place 2 ∷ place (number_type P.U16 NonNullable) 2 ∷ [])
 structs_places = refl

@@ -34,7 +34,7 @@ flags_are = refl
 offset_flags_are : first_rows 5 (flags_from 2) ≡ flag true ∷ flag true ∷ flag false ∷ flag true ∷ flag false ∷ []
 offset_flags_are = refl
 
--- Two zero bytes are a validity of nine rows of which none is there.
+-- Two zero bytes are a validity of nine rows that are all null.
 none_there : first_rows 9 (array (flag_type NonNullable) 9 (B.bool (record { bits = buffer (0 ∷ 0 ∷ []) 0; offset = 0 })) []) ≡ replicate 9 (flag false)
 none_there = refl
 
@@ -153,8 +153,8 @@ bare_variants_are = refl
 known_variants_are : first_rows 2 (variants_over Nullable known []) ≡ word 5 ∷ word 6 ∷ []
 known_variants_are = refl
 
--- A typed row that is there stands over the core's. Where it is null, the core's row is left: here one of which
--- nothing is known, one that is there, and one that is null.
+-- A valid typed row stands over the core's. Where it is null, the core's row is left: here an opaque one, a valid one
+-- and a null.
 over_unknown : first_rows 2 (variants (typed ∷ [])) ≡ one ∷ opaque ∷ []
 over_unknown = refl
 
@@ -164,7 +164,7 @@ over_known = refl
 over_null : first_rows 2 (variants_over Nullable (variant_values NonNullable) (typed ∷ [])) ≡ one ∷ null ∷ []
 over_null = refl
 
--- So it is known whether a row is there.
+-- So it is known whether a row is valid.
 typed_stands : valid_at (variants (typed ∷ [])) 0 ≡ Some true
 typed_stands = refl
 
@@ -174,18 +174,18 @@ unknown_left = refl
 null_left : valid_at (variants_over Nullable (variant_values NonNullable) (typed ∷ [])) 1 ≡ Some false
 null_left = refl
 
--- A list over a core of which nothing is known is one of variants.
+-- A list over an opaque core is one of variants.
 variant_lists_are : row_at (variants (fixed 3 2 (1 ∷ 2 ∷ 3 ∷ 4 ∷ 5 ∷ 6 ∷ []) ∷ [])) 1 ≡ variant_of (list_of (variant_type NonNullable)) (tuple (word 4 ∷ word 5 ∷ word 6 ∷ []))
 variant_lists_are = refl
 
--- Of a structure over such a core nothing is known, though it is there.
+-- A struct over such a core is opaque, though valid.
 structure_hidden : row_at (variants (structs ∷ [])) 0 ≡ opaque
 structure_hidden = refl
 
 hidden_stands : valid_at (variants (structs ∷ [])) 0 ≡ Some true
 hidden_stands = refl
 
--- A typed row of which nothing is known hides the core's.
+-- A typed opaque row hides the core's.
 unknown_hides : row_at (variants_over Nullable known (unknown_rows (number_type P.I32 Nullable) ∷ [])) 0 ≡ opaque
 unknown_hides = refl
 

@@ -210,7 +210,7 @@ maps es = array map_type 1 B.map (es ∷ [])
 abbrev pub empty_structs : Tree
 empty_structs = array (node (K.structure [] NonNullable) end) 7 B.struct []
 
--- Structures of a number, of which the second is null.
+-- Structs of a number, of which the second is null.
 abbrev pub structs : Tree
 structs = array (node (K.structure (codes "a" ∷ []) Nullable) (more (number_type P.U16 NonNullable) end)) 2 B.struct (bits 2 1 ∷ u16s (7 ∷ 8 ∷ []) ∷ [])
 
@@ -237,7 +237,7 @@ lifted_values m =
 abbrev pub variant_type : Nullability → Typ
 variant_type m = kind (K.variant m)
 
--- Two rows of a type, of which nothing is known.
+-- Two opaque rows of a type.
 abbrev pub unknown_rows : Typ → Tree
 unknown_rows d = array d 2 (B.foreign (record { id = codes "x.core"; metadata = []; buffers = [] })) []
 
@@ -245,7 +245,7 @@ unknown_rows d = array d 2 (B.foreign (record { id = codes "x.core"; metadata = 
 abbrev pub variants_over : Nullability → Tree → List Tree → Tree
 variants_over m core ts = array (variant_type m) 2 B.variant (core ∷ ts)
 
--- The same over a core of which nothing is known.
+-- The same over an opaque core.
 abbrev pub variants : List Tree → Tree
 variants ts = variants_over Nullable (unknown_rows (variant_type Nullable)) ts
 

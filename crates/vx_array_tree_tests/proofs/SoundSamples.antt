@@ -112,7 +112,7 @@ words_sound = (
 abbrev pub texts_content : (validity prefix : ℕ) → Type 0
 texts_content validity prefix = Content (label (texts validity prefix)).dtype 5 (label (texts validity prefix)).body (rows_below (below (texts validity prefix)))
 
--- The rows that are there name their texts.
+-- The valid rows name their texts.
 texts_are : texts_content 21 97
 unfolding is_utf8 chars encode
 texts_are zero l t = (codes "hello", refl, refl)
@@ -343,7 +343,7 @@ lifted_sound = (
 
 -- ---- variants
 
--- No child of variants says where rows are, so that any may be foreign.
+-- No child of variants is a control child, so that any may be foreign.
 free : (d : Typ) (ts : Trees) → IsControlledBy E.variant d ts
 free d ts = record { controls = λ i t e c. absurd (false≢true c); entries = tt }
 
@@ -393,7 +393,7 @@ variant_values_sound = (
 over_values_sound : IsSound (variants_over Nullable (variant_values NonNullable) (typed ∷ []))
 over_values_sound = (record { fair = (refl, tt); planned = refl; allows = tt; takes = tt; holds = tt; controlled = free _ _; content = tt; stats = none_fit _ }, (variant_values_sound, (typed_sound, tt)))
 
--- Lists and structures may be typed children.
+-- Lists and structs may be typed children.
 variant_lists_sound : IsSound (variants (fixed 3 2 (1 ∷ 2 ∷ 3 ∷ 4 ∷ 5 ∷ 6 ∷ []) ∷ []))
 variant_lists_sound = (
   record { fair = ((refl, omega arith), ((refl, tt), tt)); planned = refl; allows = tt; takes = tt; holds = tt; controlled = free _ _; content = tt; stats = none_fit _ },

@@ -1,4 +1,4 @@
-//! Tests of the definitions of arrays: each lemma is a row of a table, which the definitions compute.
+//! Tests of the definitions of arrays: each lemma is a worked row, which the definitions compute.
 //!
 //! - `proofs::Samples`: arrays of each encoding;
 //! - `proofs::SampleRows`: their rows, and how many cells a row takes;

@@ -1,4 +1,4 @@
--- The validity of rows of which none is there is sound, and says so of each row.
+-- The validity of rows that are all null is sound, and says so of each row.
 use Rattle.std.proofs.Common.{ℕ, ◌≡◌, ◌+◌, ◌/◌, ◌%◌, ◌^◌, ◌<◌, false, Some, None, refl, sym, ap, ◌∙◌, subst, arith, length, replicate, zero-add}
 use Rattle.std.specs.Prelude.{Result, Ok, Err, IfOk, IsOkUnless}
 use Rattle.std.proofs.Math.Nat.{zero-div}

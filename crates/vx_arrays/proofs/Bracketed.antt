@@ -12,7 +12,7 @@ use Rattle.vx_arrays.specs.declared.body.Body.{Body as Declared}
 use Rattle.vx_arrays.specs.declared.body.Body.TheVariants.{Foreign}
 use Rattle.vx_rows.specs.declared.error.ArrayError.{ArrayError}
 
--- There are so many.
+-- There are n of them.
 length-bracketed : (word : List ℕ) (i k : ℕ) → length (bracketed word i k) ≡ k
 length-bracketed word i zero = refl
 length-bracketed word i (suc k) = ap (λ n. suc n) (length-bracketed word (suc i) k)

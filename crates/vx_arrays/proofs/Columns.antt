@@ -1,4 +1,4 @@
--- Columns of structures, one by one.
+-- Columns of structs, one by one.
 use Rattle.std.proofs.Common.{ℕ, zero, suc, ◌≡◌, ◌<◌, ◌+◌, List, [], ◌∷◌, Bool, false, sym, ap, ◌∙◌, subst, length, take, get_or, add-one, arith}
 use Rattle.std.specs.Prelude.{◌↔◌, IsTrue}
 use Rattle.vx_trees.specs.Rose.{label, more, count, roses_of}

@@ -45,7 +45,7 @@ foreign_sound d n x ts = untold_sound d n (B.foreign x) ts (foreign_shaped d n x
 
 -- ---- child by child
 
--- Of the first so many children those that say where rows are hold no foreign node.
+-- Of the first n children those that are control children hold no foreign node.
 abbrev pub IsKnownAt : (ℕ → Bool) → List Tree → ℕ → Type 0
 IsKnownAt f us j = (t : Tree) → slice_get us j ≡ Some t → IsTrue (f j) → HasNoForeign t
 
@@ -76,7 +76,7 @@ module _ (d : Typ) (n : ℕ) (b : Body) (us : List Tree) where
       let x : slice_get us j ≡ Some t = ap (λ (ts : List Tree). slice_get ts j) (sym (roses_list-roses_of us)) ∙ e in
       a j (omega (arith, l, slice_get_inside us j t x)) t x (subst (λ (m : ℕ). IsTrue (is_control (encoding_of b) d m j)) (count-roses_of us) k)
 
-  -- All of them being looked at, what says where rows are is known.
+  -- All of them being looked at, control children are known.
   pub all_known : (i : ℕ) → length us ≤ i → HasNativeEntries (encoding_of b) (roses_of us) → AreKnown (λ j. is_control (encoding_of b) d (length us) j) us i → IsControlled (untold d n b) (roses_of us)
   all_known i l e a = record { controls = known_controls i l a; entries = e }
 

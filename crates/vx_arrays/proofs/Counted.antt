@@ -43,7 +43,7 @@ cells_next r start (suc k) =
 pub cells_more : (r : Rows) (start k : ℕ) → cells_from r start (k + 1) ≡ cells_from r start k + r.cells (start + k)
 cells_more r start k = rw (add-one k) (cells_next r start k)
 
--- So many rows take no fewer cells than the first of them.
+-- n rows take no fewer cells than the first of them.
 cells_grow : (r : Rows) (start k more_rows : ℕ) → cells_from r start k ≤ cells_from r start (k + more_rows)
 cells_grow r start zero m = omega arith
 cells_grow r start (suc k) m =

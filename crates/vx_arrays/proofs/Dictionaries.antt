@@ -220,7 +220,7 @@ through_row o value i e = rw e refl
 through_cells : (o : Option Bool) (cells : ℕ → ℕ) (i : ℕ) → o ≡ Some true → cells i ≡ cells_where o cells i
 through_cells o cells i e = rw e refl
 
--- Values of flags that are never null are of the same type.
+-- Values of non-nullable flags are of the same type.
 never_nullable : (v : Typ) → raised Nullable v ≡ node (boolean NonNullable) end → ⊥
 never_nullable v e = absurd (nullable_never (sym (nullable_under v) ∙ ap (λ (y : Typ). nullability y) e))
   where

@@ -39,7 +39,7 @@ module _ (ds : List DType) (k v : DType) (l : length ds ≡ 2) (p : k ≡ get_or
   pub types_differ : (x y : Typ) → (typ k ≡ x → ⊥) → map typ ds ≡ x ∷ y ∷ [] → ⊥
   types_differ x y n e = n (heads _ _ _ _ (ap (λ (zs : List DType). map typ zs) (sym (two_items ds k v l p q)) ∙ e))
 
--- A structure that is not nullable and has the names of an entry is one exactly where its types are those.
+-- A struct that is not nullable and has the names of an entry is one exactly where its types are those.
 pub entry_decides : (d : DType) (f : Fields) (m : Nullability) (e : Entries) (ns : List (List ℕ)) (ts : List Typ) (b : Bool) → d ≡ D.Struct f m → m ≡ NonNullable → ns ≡ f.names → ns ≡ key_name ∷ value_name ∷ [] → ts ≡ f.types
     → (IsTrue b ↔ (ts ≡ e.key ∷ e.value ∷ [])) → IsTrue b ↔ (typ d ≡ entries e)
 entry_decides d f m e ns ts b s n p q r h =

@@ -1,4 +1,4 @@
--- The children of a node of structures: a validity that may stand in front, and its columns; and its rows.
+-- The children of a struct node: a validity that may stand in front, and its columns; and its rows.
 use Rattle.std.proofs.Common.{ℕ, suc, ◌≡◌, ◌≤◌, ◌<◌, ◌-◌, ◌==◌, List, [], ◌∷◌, Option, Some, Bool, true, false, refl, sym, ap, ◌∙◌, subst, inl, inr, length, take, drop, arith}
 use Rattle.std.proofs.lemmas.Bool.{eq-eqb, ne_eqb}
 use Rattle.std.proofs.lemmas.List.{take_all}
@@ -104,7 +104,7 @@ front_flags d n v us s k =
 
 -- ---- the rows of the node
 
--- Whether a row is there, where a validity stands in front of the columns, and where none does.
+-- Whether a row is valid, where a validity stands in front of the columns, and where none does.
 pub valid_front : (d : Typ) (v : Tree) (us : Trees) (i : ℕ) (w : Option Bool) → count us ≡ width_of d → w ≡ flag_in (row_at v i)
     → w ≡ structure_valid (has_validity d (length (rows_below (more v us)))) (rows_below (more v us)) i
 valid_front d v us i w k q =
@@ -254,5 +254,5 @@ no_children f m n other h =
     let b = shaped_behind f m n end h in
     elim (b.ways) [ inl x ↦ absurd (other (x.0 ∙ width f m n end)) | inr x ↦ absurd (no_places _ _ x.1) ]
 
--- What rows of structures rest on.
+-- What rows of structs rest on.
 pub ruleset fielded = (sound_fields, structure_value, structure_cells, columns_there, columns_smaller)

@@ -1,4 +1,4 @@
--- The rows of flags that are never null.
+-- The rows of non-nullable flags.
 use Rattle.std.proofs.Common.{ℕ, ◌≡◌, ◌+◌, [], Some, refl, sym, subst}
 use Rattle.vx_trees.specs.Rose.{node, end, more, count}
 use Rattle.vx_types.specs.Kind.{boolean}

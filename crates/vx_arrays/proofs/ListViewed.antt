@@ -1,4 +1,4 @@
--- The children of a node of list views: its elements, its offsets, its sizes, and what stands after them; and its rows.
+-- The children of a list view node: its elements, its offsets, its sizes, and what stands after them; and its rows.
 use Rattle.std.proofs.Common.{ℕ, suc, ◌≡◌, ◌≤◌, ◌<◌, ◌+◌, ◌⊎◌, inl, inr, List, [], ◌∷◌, Option, Some, None, Bool, true, false, refl, sym, ap, ◌∙◌, subst, length, arith}
 use Rattle.std.proofs.Math.Nat.{eq-or-lt_of_le}
 use Rattle.std.specs.Prelude.{◌↔◌, IsTrue}
@@ -140,7 +140,7 @@ module _ (d : Typ) (n : ℕ) (x : Data) (ts us ws : Trees) (a o z : Tree) (vs : 
     pub shaped_planned : before_validity [] n (count vs) ≡ Some (places vs)
     shaped_planned = parts_of.behind.planned
 
-  -- The content is that the rows that are there are right.
+  -- The content is that the valid rows are right.
   pub content_is : (b : Bool) → (IsTrue b ↔ ((i : ℕ) → i < n → IsThere (validity (rows_below vs)) i → IsView (rows_of a) (rows_of o) (rows_of z) i)) → IsTrue b ↔ Content n (rows_below ts)
   content_is b h = subst (λ (ys : Trees). IsTrue b ↔ Content n (rows_below ys)) whole h
 
@@ -166,7 +166,7 @@ module _ (d : Typ) (n : ℕ) (x : Data) (ts us ws : Trees) (a o z : Tree) (vs : 
 
   -- ---- its rows
 
-  -- A row that is there is its elements.
+  -- A valid row is its elements.
   pub view_value : (start size i : ℕ) (v : Option Bool) (y : Value) → (v ≡ Some true → start ≡ index_at (rows_of o) i) → (v ≡ Some true → size ≡ index_at (rows_of z) i) → v ≡ validity (rest (rest (rest (rows_below ts)))) i
       → ((g : ℕ → Value) (j : ℕ) → node tuple (values_from (rows_of a) start size) ≡ g j → y ≡ where_valid v g j) → y ≡ (rows n (rows_below ts)).row i
   view_value start size i v y q r w h =

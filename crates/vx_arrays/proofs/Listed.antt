@@ -1,4 +1,4 @@
--- The children of a node of lists: its elements, its offsets, and what stands after them; and its rows.
+-- The children of a list node: its elements, its offsets, and what stands after them; and its rows.
 use Rattle.std.proofs.Common.{ℕ, suc, ◌≡◌, ◌≤◌, ◌<◌, ◌+◌, ◌-◌, ◌^◌, List, [], ◌∷◌, Option, Some, Bool, true, false, refl, sym, ap, ◌∙◌, subst, length, arith, add-one}
 use Rattle.std.specs.Prelude.{◌↔◌, IsTrue}
 use Rattle.std.proofs.lemmas.Bool.{ltb-true}
@@ -180,7 +180,7 @@ module _ (d : Typ) (n : ℕ) (ts us : Trees) (a o : Tree) (vs : Trees) (e : more
   same_size : (start next i : ℕ) → start ≡ index_at (rows_of o) i → next ≡ index_at (rows_of o) (i + 1) → next - start ≡ size_at (rows_of o) i
   same_size start next i q r = rw (q, r ∙ ap (λ (k : ℕ). index_at (rows_of o) k) (add-one i)) refl
 
-  -- A row that is there is its elements.
+  -- A valid row is its elements.
   pub list_value : (start next i : ℕ) (v : Option Bool) (x : Value) → start ≡ index_at (rows_of o) i → next ≡ index_at (rows_of o) (i + 1) → v ≡ validity (rest (rest (rows_below ts))) i
       → ((g : ℕ → Value) (j : ℕ) → node tuple (values_from (rows_of a) start (next - start)) ≡ g j → x ≡ where_valid v g j) → x ≡ (rows n (rows_below ts)).row i
   list_value start next i v x q r w h =

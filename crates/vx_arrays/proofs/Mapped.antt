@@ -1,4 +1,4 @@
--- The entries of a node of maps, and its rows.
+-- The entries of a map node, and its rows.
 use Rattle.std.proofs.Common.{ℕ, ◌≡◌, ◌<◌, ◌≤◌, List, [], ◌∷◌, Some, refl, sym, ap, ◌∙◌, length, get_or, arith}
 use Rattle.std.proofs.lemmas.Option.{same_Some}
 use Rattle.vx_trees.specs.Rose.{node, end, more, label, count, roses_of}
@@ -91,7 +91,7 @@ rows_in d n t ts s =
     let x = sound_mapped d n (more t ts) s in
     ap (λ (u : Tree). (label u).len) (first_tree t _ ts end x.alone) ∙ x.entries.counted
 
--- A node of maps has no child but the first.
+-- A map node has no child but the first.
 pub alone_item : (us : List Tree) (u : Tree) (d : Typ) (n : ℕ) → 1 ≤ length us → u ≡ get_or us 0 u → IsSoundNode (untold d n B.map) (roses_of us) → roses_of us ≡ more u end
 alone_item [] u d n l e s = absurd (omega (arith, l))
 alone_item (x ∷ us) u d n l e s = alone_in d n x (roses_of us) s ∙ ap (λ (t : Tree). more t end) (sym e)

@@ -134,14 +134,14 @@ module _ (d : Typ) (n : ℕ) (x : Data) where
     pub sound_offsets : (bs : List ℕ) → bs ≡ x.bytes.bytes → AreOffsets (rows_of o) n (length bs)
     sound_offsets bs q = subst (λ (y : List ℕ). AreOffsets (rows_of o) n (length y)) (sym q) content.offsets
 
-    -- A row that is there is of the type's content.
+    -- A valid row is of the type's content.
     pub sound_text : (bs part : List ℕ) (i : ℕ) → bs ≡ x.bytes.bytes → i < n → validity (rows_below vs) i ≡ Some true → part ≡ bytes_at bs (rows_of o) i → IsContent d part
     sound_text bs part i q h there p =
         subst (λ (y : List ℕ). IsContent d y) (sym p) (subst (λ (y : List ℕ). IsContent d (bytes_at y (rows_of o) i)) (sym q) (content.texts i h there))
 
     -- ---- the rows of the node
 
-    -- A row that is there is its bytes.
+    -- A valid row is its bytes.
     pub row_there : (bs part : List ℕ) (i : ℕ) → bs ≡ x.bytes.bytes → validity (rows_below vs) i ≡ Some true → part ≡ bytes_at bs (rows_of o) i → lone (mark_of d part) ≡ (rows_of_parts d n x (rows_below ts)).row i
     row_there bs part i q there p =
         ap (λ (y : List ℕ). lone (mark_of d y)) (p ∙ ap (λ (y : List ℕ). bytes_at y (rows_of o) i) q)
@@ -231,7 +231,7 @@ module _ (z : DType) (n : ℕ) (x : Data) (o : Tree) (vs : Trees) where
   pub no_offsets : (t : Bool) (bs : List ℕ) → bs ≡ x.bytes.bytes → (IsTrue t ↔ AreOffsets (rows_of o) n (length bs)) → t ≡ false → IsTrue false ↔ Content (typ z) n x (rows_of o ∷ rows_below vs)
   no_offsets t bs e f h = (λ w. absurd_test w, λ c. absurd (iff_false f h (subst (λ (y : List ℕ). AreOffsets (rows_of o) n (length y)) (sym e) c.offsets)))
 
-  -- Under a type of texts the rows that are there are to be texts.
+  -- Under a type of texts the valid rows are to be texts.
   pub texts_decide : (m : Nullability) (t r : Bool) (bs : List ℕ) → z ≡ D.Utf8 m → bs ≡ x.bytes.bytes → (IsTrue t ↔ AreOffsets (rows_of o) n (length bs)) → t ≡ true
       → (IsTrue r ↔ ((i : ℕ) → i < n → IsThere (validity (rows_below vs)) i → IsText (bytes_at bs (rows_of o) i))) → IsTrue r ↔ Content (typ z) n x (rows_of o ∷ rows_below vs)
   texts_decide m t r bs q e f h g =

@@ -1,4 +1,4 @@
--- Offsets that stand as numbers in a buffer, with no validity over them.
+-- Offsets as plain numbers in a buffer, without a validity.
 use Rattle.std.proofs.Common.{ℕ, zero, suc, min, ◌≡◌, ◌-◌, ◌^◌, ◌≤◌, ◌<◌, ◌⊎◌, inl, inr, List, Bool, Some, None, refl, sym, ap, ◌∙◌, arith}
 use Rattle.std.proofs.lemmas.Bool.{false≢true, le-ltb}
 use Rattle.std.proofs.lemmas.Int.{to_z_pos}

@@ -1,4 +1,4 @@
--- Offsets that never fall, read from the first to the last.
+-- Offsets that never decrease, read from the first to the last.
 use Rattle.std.proofs.Common.{ℕ, zero, suc, ◌≡◌, ◌+◌, ◌-◌, ◌≤◌, ◌<◌, ◌⊎◌, inl, inr, List, take, drop, refl, sym, ap, ◌∙◌, add-zero, add-suc, add-one, arith}
 use Rattle.std.proofs.Math.Nat.{eq-or-lt_of_le}
 use Rattle.vx_array_tree.specs.Encodings.VarBins.{AreOffsets, bytes_at}

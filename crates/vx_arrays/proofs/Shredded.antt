@@ -1,4 +1,4 @@
--- The children of a node of variants: its core, and at most a shredded child; and its rows.
+-- The children of a variant node: its core, and at most a shredded child; and its rows.
 use Rattle.std.proofs.Common.{ℕ, suc, ◌≡◌, ◌≤◌, ◌+◌, List, [], ◌∷◌, Some, Bool, true, false, refl, sym, ap, ◌∙◌, subst, length, get_or, arith}
 use Rattle.std.specs.Prelude.{◌↔◌, IsTrue}
 use Rattle.std.proofs.lemmas.Bool.{false≢true}
@@ -20,7 +20,7 @@ use Rattle.vx_arrays.specs.Variants.{AreRows, IsOfVariants, merged_cells, merged
 
 -- ---- what a plan says
 
--- A core of a type of variants and of n rows, and so many after it.
+-- A core of type Variant and of n rows, and a child of n rows after it.
 pub record IsOverCore (d : Typ) (n : ℕ) (c : Tree) (us : Trees) : Type 0 where
   pub variants : IsOfVariants d
   pub core : array_place c ≡ place d n
@@ -54,7 +54,7 @@ of_variants _ e v q = absurd v
 variants_type : (d : Typ) → IsOfVariants d → IsVariant d
 variants_type d v = of_variants d d v refl
 
--- A sound node of variants is of such a type.
+-- A sound variant node is of such a type.
 pub node_variants : (d : Typ) (n : ℕ) (ts : Trees) → IsSoundNode (untold d n B.variant) ts → IsVariant d
 node_variants d n end s = absurd (never_alone d n s.planned)
 node_variants d n (more c us) s = variants_type d (planned d n c us s.planned).variants

@@ -1,4 +1,4 @@
--- The children of a node of lists of one size: its elements, and what stands after them; and its rows.
+-- The children of a fixed-size list node: its elements, and what stands after them; and its rows.
 use Rattle.std.proofs.Common.{ℕ, suc, ◌≡◌, ◌≤◌, ◌<◌, ◌+◌, ◌*◌, ◌^◌, List, [], ◌∷◌, Option, Some, Bool, true, false, refl, sym, ap, ◌∙◌, subst, length, arith}
 use Rattle.std.proofs.lemmas.Bool.{iff_false, false≢true, ltb-true}
 use Rattle.std.specs.Prelude.{◌↔◌, IsTrue}
@@ -80,7 +80,7 @@ module _ (d : Typ) (n : ℕ) (ts : Trees) (o : Tree) (vs : Trees) (e : more o vs
   pub valid_is : (i : ℕ) (v : Option Bool) → v ≡ validity (rows_below vs) i → v ≡ validity (rest (rows_below ts)) i
   valid_is i v q = q ∙ ap (λ (us : Trees). validity (rest (rows_below us)) i) e
 
-  -- A row that is there is its elements.
+  -- A valid row is its elements.
   elements_are : (size i : ℕ) → size ≡ size_of d → node tuple (values_from (rows_of o) (i * size) size) ≡ node tuple (values_from (first (rows_below ts)) (i * size_of d) (size_of d))
   elements_are size i q =
       ap (λ j. node tuple (values_from (rows_of o) (i * j) j)) q ∙ ap (λ (us : Trees). node tuple (values_from (first (rows_below us)) (i * size_of d) (size_of d))) e
@@ -126,7 +126,7 @@ module _ (s : ℕ) (m : Nullability) (n : ℕ) (o : Tree) (vs : Trees) where
   shaped_front : IsWellShaped (fixed_size_list_head (label o).dtype s m n) (more o vs) → (place (label o).dtype (label o).len ≡ place (label o).dtype (n * s)) × (before_validity [] n (count vs) ≡ Some (places vs))
   shaped_front h = front_is (place (label o).dtype (n * s)) n o vs (let_through (is_len (n * s)) _ _ h.planned)
 
-  -- Where there are not so many elements, nothing is of that shape.
+  -- With another number of elements nothing has that shape.
   pub unshaped : (b : Bool) → (IsTrue b ↔ ((label o).len ≡ n * s)) → b ≡ false → IsTrue false ↔ IsWellShaped (fixed_size_list_head (label o).dtype s m n) (more o vs)
   unshaped b f q = (λ x. absurd (false≢true x), λ h. absurd (iff_false f q (ap (λ (p : Place). p.len) (shaped_front h).0)))
 

@@ -1,4 +1,4 @@
--- The storage of a node of an extension, and its rows.
+-- The storage of an extension node, and its rows.
 use Rattle.std.proofs.Common.{ℕ, ◌≡◌, ◌<◌, ◌≤◌, List, [], ◌∷◌, Some, refl, sym, ap, ◌∙◌, length, get_or, arith}
 use Rattle.std.proofs.lemmas.Option.{same_Some}
 use Rattle.vx_trees.specs.Rose.{node, end, more, label, count, roses_of}
@@ -82,7 +82,7 @@ rows_in d n t ts s =
     let x = sound_stored d n (more t ts) s in
     ap (λ (u : Tree). (label u).len) (first_tree t _ ts end x.alone) ∙ x.len_is
 
--- A node of an extension has no child but the first.
+-- An extension node has no child but the first.
 pub alone_item : (us : List Tree) (u : Tree) (d : Typ) (n : ℕ) → 1 ≤ length us → u ≡ get_or us 0 u → IsSoundNode (untold d n B.ext) (roses_of us) → roses_of us ≡ more u end
 alone_item [] u d n l e s = absurd (omega (arith, l))
 alone_item (x ∷ us) u d n l e s = alone_in d n x (roses_of us) s ∙ ap (λ (t : Tree). more t end) (sym e)

@@ -1,4 +1,4 @@
--- The children of a node of unions: its tags, and its members; and its rows.
+-- The children of a union node: its tags, and its members; and its rows.
 use Rattle.std.proofs.Common.{ℕ, zero, suc, ◌≡◌, ◌≤◌, ◌<◌, ◌+◌, ◌==◌, List, [], ◌∷◌, Option, Some, None, option_map, Bool, true, false, refl, sym, ap, ◌∙◌, subst, length, drop, get_or, arith, add-one}
 use Rattle.std.proofs.lemmas.Bool.{false≢true, eq-eqb, ne_eqb}
 use Rattle.std.proofs.Math.Nat.{eq-or-lt_of_le}
@@ -165,7 +165,7 @@ module _ (v : Members) (m : Nullability) (n : ℕ) where
 
 -- ---- what a node is made of
 
--- A type of unions, and the places of its tags and members.
+-- A union type, and the places of its tags and members.
 pub record IsOfMembers (d : Typ) (n : ℕ) (ts : Trees) : Type 0 where
   pub kind : Nullability
   pub types : Roses Kind
@@ -233,7 +233,7 @@ module _ (d : Typ) (n : ℕ) (ts us : Trees) (t : Tree) (e : more t us ≡ ts) w
     right : IsIndex (rows_of t) i × IsTrue (is_some (member (index_at (rows_of t) i) (tags_of d) us))
     right = content_tagged s.content i l there_is
 
-    -- Where a row is there its tag is a number, and this names a member.
+    -- Where a row is valid its tag is a number, and this names a member.
     pub no_number : None ≡ natural (row_at t i) → ⊥
     no_number q = false≢true (ap (λ (o : Option ℕ). is_some o) q ∙ right.0)
 

@@ -1,4 +1,4 @@
--- Nodes of variants as a whole: whether their rows are there, and that these are no natural numbers and no flags.
+-- Nodes of variants as a whole: whether their rows are valid, and that these are no natural numbers and no flags.
 use Rattle.std.proofs.Common.{ℕ, ◌≡◌, ◌<◌, ◌≤◌, List, [], ◌∷◌, Option, Some, None, Bool, false, refl, sym, ap, ◌∙◌, subst, length, get_or, arith}
 use Rattle.vx_trees.specs.Rose.{node, more, label, roses_of}
 use Rattle.vx_trees.specs.Walks.{nodes}

@@ -9,7 +9,7 @@ use Rattle.vx_types.specs.declared.nullability.Nullability.{Nullability}
 use Rattle.vx_array_tree.specs.Body as B
 use Rattle.vx_array_tree.specs.Tree.{Tree, option_trees, untold}
 
--- So many decimals of some digits, by integers of a width, in a buffer: a node over the validity, where one stands.
+-- n decimals of some digits, by integers of a width, in a buffer: a node over the validity, if any.
 abbrev pub decimal_tree : Buffer → DecimalType → Digits → Nullability → ℕ → Option Tree → Tree
 decimal_tree values width digits m n validity =
     node (untold (node (decimal digits.precision digits.scale m) end) n (B.decimal (record { values = values; values_type = width })))

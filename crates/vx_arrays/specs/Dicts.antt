@@ -24,7 +24,7 @@ abbrev pub IsOfCodes : Typ → Type 0
 IsOfCodes (node (primitive p m) end) = IsTrue (is_integer p)
 IsOfCodes _ = ⊥
 
--- Codes and values are the children of a dictionary of this type and so many rows.
+-- Codes and values are the children of a dictionary of this type and n rows.
 pub record AreDictChildren (d : Typ) (n : ℕ) (codes values : Tree) : Type 0 where
   pub kind : IsOfCodes (label codes).dtype
   pub counted : (label codes).len ≡ n

@@ -7,7 +7,7 @@ use Rattle.vx_types.specs.Typ.{Typ}
 use Rattle.vx_array_tree.specs.Body as B
 use Rattle.vx_array_tree.specs.Tree.{Tree, untold}
 
--- A node of an extension over its storage, with as many rows.
+-- An extension node over its storage, with as many rows.
 abbrev pub extension_tree : Ext → Tree → Tree
 extension_tree x storage = node (untold (node (extension x.id x.metadata) (more x.storage end)) (label storage).len B.ext) (more storage end)
 

@@ -7,11 +7,11 @@ use Rattle.vx_types.specs.declared.nullability.Nullability.{Nullability}
 use Rattle.vx_array_tree.specs.Body as B
 use Rattle.vx_array_tree.specs.Tree.{Head, Tree, option_trees, untold}
 
--- A node of lists of so many elements of a type.
+-- A list node of n elements of a type.
 abbrev pub fixed_size_list_head : Typ → ℕ → Nullability → ℕ → Head
 fixed_size_list_head e s m n = untold (node (fixed_size_list s m) (more e end)) n B.fixed_size_list
 
--- So many lists of the elements: a node over the elements and the validity, where one stands.
+-- n lists of the elements: a node over the elements and the validity, if any.
 abbrev pub fixed_size_list_tree : Tree → ℕ → Nullability → ℕ → Option Tree → Tree
 fixed_size_list_tree elements s m n validity = node (fixed_size_list_head (label elements).dtype s m n) (more elements (option_trees validity))
 

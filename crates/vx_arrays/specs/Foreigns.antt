@@ -10,7 +10,7 @@ use Rattle.vx_array_tree.specs.Tree.{Head, Tree, Trees, untold}
 abbrev pub foreign_head : List ℕ → Typ → ℕ → List ℕ → List Buffer → Head
 foreign_head id d n metadata buffers = untold d n (B.foreign (record { id = id; metadata = metadata; buffers = buffers }))
 
--- So many rows of which nothing is known: such a node over any children.
+-- n opaque rows: such a node over any children.
 abbrev pub foreign_tree : List ℕ → Typ → ℕ → List ℕ → List Buffer → Trees → Tree
 foreign_tree id d n metadata buffers ts = node (foreign_head id d n metadata buffers) ts
 

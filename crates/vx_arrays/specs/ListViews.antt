@@ -12,17 +12,17 @@ use Rattle.vx_arrays.specs.Lists.{element_of}
 use Rattle.vx_arrays.specs.Validity.{IsValidity}
 use Rattle.vx_arrays.specs.VarBins.{IsOfOffsets}
 
--- What a node of list views holds: its flag.
+-- What a list view node holds: its flag.
 abbrev pub views_of : Bool → Body
 views_of flag = B.listview (record { zero_copy = flag })
 
--- Lists of the elements: a node over these, the offsets, the sizes, and the validity, where one stands. There are as many
--- rows as offsets.
+-- Lists of the elements: a node over these, the offsets, the sizes, and the validity, if any. There are as many rows
+-- as offsets.
 abbrev pub list_view_tree : Tree → Tree → Tree → Nullability → Option Tree → Bool → Tree
 list_view_tree elements offsets sizes m validity flag =
     node (untold (node (list m) (more (label elements).dtype end)) (label offsets).len (views_of flag)) (more elements (more offsets (more sizes (option_trees validity))))
 
--- Integers that are never null, one for each of n rows.
+-- Integers that are non-nullable, one for each of n rows.
 pub record AreCounts (n : ℕ) (t : Tree) : Type 0 where
   pub integers : IsOfOffsets (label t).dtype
   pub counted : (label t).len ≡ n

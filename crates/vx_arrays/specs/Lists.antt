@@ -7,7 +7,7 @@ use Rattle.vx_types.specs.declared.nullability.Nullability.{Nullability}
 use Rattle.vx_array_tree.specs.Body as B
 use Rattle.vx_array_tree.specs.Tree.{Tree, option_trees, untold}
 
--- Lists of the elements: a node over these, the offsets and the validity, where one stands. There is one row less than there
+-- Lists of the elements: a node over these, the offsets and the validity, if any. There is one row less than there
 -- are offsets.
 abbrev pub list_tree : Tree → Tree → Nullability → Option Tree → Tree
 list_tree elements offsets m validity =

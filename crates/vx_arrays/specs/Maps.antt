@@ -10,7 +10,7 @@ use Rattle.vx_array_tree.specs.Encodings.Maps.{Takes}
 use Rattle.vx_array_tree.specs.Table.{encoding_of}
 use Rattle.vx_array_tree.specs.Tree.{Tree, untold}
 
--- A node of maps over their entries, with as many rows, which are null where those are.
+-- A map node over its entries, with as many rows, which are null where those are.
 abbrev pub map_tree : Entries → Tree → Tree
 map_tree m t = node (untold (node (map m.keys_sorted (nullability (label t).dtype)) (more m.key (more m.value end))) (label t).len B.map) (more t end)
 

@@ -16,7 +16,7 @@ use Rattle.vx_array_tree.specs.Tree.{Tree}
 use Rattle.vx_rows.specs.declared.error.ArrayError.{ArrayError}
 use Rattle.vx_rows.specs.declared.error.ArrayError.TheVariants.{OutOfMemory, BadShape, BadContent, ForeignControl, ValueTooLarge, BadCast}
 
--- What a node holds with these buffers in the place of its own, and all else as it was: none, where its encoding has
+-- What a node holds with these buffers in place of its own, and all else as it was: none, where its encoding has
 -- another number of buffers.
 abbrev pub rebuffered : Body → List Buffer → Option Body
 rebuffered (B.bool x) bs = option_map B.bool (Bools.body_of (Bools.metadata_of x) bs)
@@ -27,7 +27,7 @@ rebuffered (B.varbinview x) bs = option_map B.varbinview (VarBinViews.body_of bs
 rebuffered (B.foreign x) bs = Some (B.foreign (Foreigns.body_of (Foreigns.metadata_of x) bs))
 rebuffered b bs = bufferless b bs
 
--- An array with these buffers at its root in the place of its own: of the same type, length, statistics and children.
+-- An array with these buffers at its root in place of its own: of the same type, length, statistics and children.
 abbrev pub with_buffers : Tree → List Buffer → Option Tree
 with_buffers (node h ts) bs = option_map (λ (b : Body). node (record { dtype = h.dtype; len = h.len; stats = h.stats; body = b }) ts) (rebuffered h.body bs)
 

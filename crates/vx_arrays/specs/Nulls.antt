@@ -5,6 +5,6 @@ use Rattle.vx_types.specs.Kind.{null}
 use Rattle.vx_array_tree.specs.Body as B
 use Rattle.vx_array_tree.specs.Tree.{Tree, untold}
 
--- So many nulls: one node, of the type of nulls.
+-- n nulls: one node, of the type of nulls.
 abbrev pub null_tree : ℕ → Tree
 null_tree n = node (untold (node null end) n B.null) end

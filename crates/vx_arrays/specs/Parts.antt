@@ -29,7 +29,7 @@ parts_cells (Across arrays index) = suc (cells_at (rows_below (roses_of arrays.n
 parts_cells (Tagged tag array index) = suc (cells array.now index)
 parts_cells (Merged core shredded index) = merged_cells core.now shredded.now index
 
--- Each of these arrays has a row of this number.
+-- Each of these arrays has a row at this index.
 abbrev pub HaveRow : ℕ → Trees → Type 0
 HaveRow i end = Unit {0}
 HaveRow i (more t ts) = (i < (label t).len) × HaveRow i ts

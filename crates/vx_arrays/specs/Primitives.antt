@@ -8,7 +8,7 @@ use Rattle.vx_numbers.specs.declared.ptype.PType.{PType}
 use Rattle.vx_array_tree.specs.Body as B
 use Rattle.vx_array_tree.specs.Tree.{Tree, option_trees, untold}
 
--- So many numbers of a kind, in a buffer: a node over the validity, where one stands.
+-- n numbers of a kind, in a buffer: a node over the validity, if any.
 abbrev pub primitive_tree : PType → Nullability → ℕ → Buffer → Option Tree → Tree
 primitive_tree p m n values validity =
     node (untold (node (primitive p m) end) n (B.primitive (record { values = values }))) (option_trees validity)

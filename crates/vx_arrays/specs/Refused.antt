@@ -9,8 +9,8 @@ use Rattle.vx_rows.specs.declared.error.ArrayError.{ArrayError}
 use Rattle.vx_rows.specs.declared.error.ArrayError.TheVariants.{OutOfMemory, BadShape, BadContent, ForeignControl, ValueTooLarge, BadCast}
 
 -- A constructor refuses the tree of its parts for allocation failure, where its root is of another shape than its
--- encoding asks for, where its root is of that shape and a foreign node stands where it says where rows are, or where
--- neither is so and its content is broken.
+-- encoding requires, where its root is of that shape and a foreign node stands in a control child, or where neither
+-- is so and its content is broken.
 abbrev pub RefusesMaking : ArrayError → Tree → Type 0
 RefusesMaking OutOfMemory t = Unit {0}
 RefusesMaking BadShape t = IsMisshaped (label t) (below t)

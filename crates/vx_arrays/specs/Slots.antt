@@ -7,7 +7,7 @@ use Rattle.vx_types.specs.Kind.{structure, union}
 use Rattle.vx_types.specs.Typ.{Typ}
 use Rattle.vx_array_tree.specs.Body as B
 
--- The names of a structure's fields, and of a union's members. No other type has names.
+-- The names of a struct's fields, and of a union's members. No other type has names.
 abbrev pub member_names : Typ → List (List ℕ)
 member_names (node (structure names m) ts) = names
 member_names (node (union names tags m) ts) = names
@@ -33,7 +33,7 @@ native_slots d B.ext = codes "storage" ∷ []
 native_slots d (B.dict x) = codes "codes" ∷ codes "values" ∷ []
 native_slots d (B.foreign x) = []
 
--- So many names by numbers in brackets, from one on.
+-- n names by numbers in brackets, from one on.
 abbrev pub bracketed : List ℕ → ℕ → ℕ → List (List ℕ)
 bracketed word i zero = []
 bracketed word i (suc k) = (word ++ (codes "[" ++ (decimal i ++ codes "]"))) ∷ bracketed word (suc i) k

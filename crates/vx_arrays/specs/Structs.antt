@@ -1,4 +1,4 @@
--- What is made where an array of structures is asked for, and how its node is split.
+-- The tree that the constructor of struct arrays makes, and how its node is split.
 use Rattle.std.specs.Prelude.{ℕ, ◌≡◌, Option, None, Some, IfSome, length, if◌then◌else◌}
 use Rattle.vx_trees.specs.Rose.{node, end, more, count, roses_of}
 use Rattle.vx_types.specs.Kind.{structure}
@@ -10,7 +10,7 @@ use Rattle.vx_array_tree.specs.Body as B
 use Rattle.vx_array_tree.specs.Encodings.Structs.{has_validity}
 use Rattle.vx_array_tree.specs.Tree.{Head, Tree, Trees, untold}
 
--- A node of structures of these fields.
+-- A struct node of these fields.
 abbrev pub struct_head : Fields → Nullability → ℕ → Head
 struct_head fields m n = untold (node (structure fields.names m) (roses_of fields.types)) n B.struct
 
@@ -19,16 +19,16 @@ struct_head fields m n = untold (node (structure fields.names m) (roses_of field
 abbrev pub AreStructParts : Fields → Nullability → Trees → Option Tree → Type 0
 AreStructParts fields m columns validity = (count columns ≡ length fields.types) × (IfSome validity (λ _. m ≡ Nullable))
 
--- Children after a validity, where one stands.
+-- Children after a validity, if any.
 abbrev pub behind_validity : Option Tree → Trees → Trees
 behind_validity None ts = ts
 behind_validity (Some t) ts = more t ts
 
--- So many structures of the columns: a node over the validity, where one stands, and then the columns.
+-- n structs of the columns: a node over the validity, if any, and then the columns.
 abbrev pub struct_tree : Fields → Nullability → Trees → ℕ → Option Tree → Tree
 struct_tree fields m columns n validity = node (struct_head fields m n) (behind_validity validity columns)
 
--- The types of structures.
+-- The types of structs.
 abbrev pub IsOfFields : Typ → Type 0
 IsOfFields (node (structure names m) ts) = Unit {0}
 IsOfFields _ = ⊥
@@ -38,6 +38,6 @@ abbrev pub behind_first : Trees → Trees
 behind_first end = end
 behind_first (more t ts) = ts
 
--- The children of a node of structures that are its columns: all, but for a validity in front.
+-- The children of a struct node that are its columns: all, but for a validity in front.
 abbrev pub field_trees : Typ → Trees → Trees
 field_trees d ts = if has_validity d (count ts) then behind_first ts else ts

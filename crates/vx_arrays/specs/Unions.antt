@@ -10,7 +10,7 @@ use Rattle.vx_array_tree.specs.Body as B
 use Rattle.vx_array_tree.specs.Rows.{Rows, index_at, IsIndex, IsThere}
 use Rattle.vx_array_tree.specs.Tree.{Head, Tree, Trees, untold}
 
--- A node of unions of these members.
+-- A union node of these members.
 abbrev pub union_head : Members → Nullability → ℕ → Head
 union_head v m n = untold (node (union v.names v.ids m) (roses_of v.types)) n B.union
 
@@ -18,6 +18,6 @@ union_head v m n = untold (node (union v.names v.ids m) (roses_of v.types)) n B.
 abbrev pub union_tree : Members → Tree → Trees → Tree
 union_tree v tags ts = node (union_head v (nullability (label tags).dtype) (label tags).len) (more tags ts)
 
--- A row's tag, where it is there, is that of a member.
+-- A row's tag, where it is valid, is that of a member.
 abbrev pub IsTagged : List ℕ → Rows → Trees → ℕ → Type 0
 IsTagged ids tags ts i = IsThere tags.valid i → IsIndex tags i × IsTrue (is_some (member (index_at tags i) ids ts))

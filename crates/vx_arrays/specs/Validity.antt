@@ -13,6 +13,6 @@ pub record IsValidity (m : Nullability) (n : ℕ) (ts : Trees) : Type 0 where
   pub planned : before_validity [] n (count ts) ≡ Some (places ts)
   pub allowed : count ts ≡ 1 → m ≡ Nullable
 
--- The validity of n rows of which none is there: a bit of 0 for each, in the fewest bytes.
+-- The validity of n rows that are all null: a bit of 0 for each, in the fewest bytes.
 abbrev pub all_invalid : ℕ → Tree
 all_invalid n = bool_tree (record { bytes = replicate ((n + 7) / 8) 0; exponent = 0 }) 0 n NonNullable None

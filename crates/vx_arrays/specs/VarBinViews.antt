@@ -12,7 +12,7 @@ use Rattle.vx_array_tree.specs.Tree.{Head, Tree, option_trees, untold}
 abbrev pub varbinview_head : Typ → ℕ → Data → Head
 varbinview_head d n x = untold d n (B.varbinview x)
 
--- So many rows by views, and the buffers that views name: a node over the validity, where one stands.
+-- n rows by views, and the buffers that views name: a node over the validity, if any.
 abbrev pub varbinview_tree : Typ → ℕ → List Buffer → Buffer → Option Tree → Tree
 varbinview_tree d n buffers views validity = node (varbinview_head d n (record { buffers = buffers; views = views })) (option_trees validity)
 

@@ -14,7 +14,7 @@ use Rattle.vx_array_tree.specs.Tree.{Head, Tree, Trees, option_trees, places, un
 abbrev pub varbin_head : Typ → ℕ → Buffer → Head
 varbin_head d n bytes = untold d n (B.varbin (record { bytes = bytes }))
 
--- It stands over the offsets and the validity, where one stands.
+-- It stands over the offsets and the validity, if any.
 abbrev pub varbin_node : Typ → ℕ → Tree → Buffer → Option Tree → Tree
 varbin_node d n offsets bytes validity = node (varbin_head d n bytes) (more offsets (option_trees validity))
 
@@ -28,7 +28,7 @@ IsOfBytes (node (utf8 m) end) = Unit {0}
 IsOfBytes (node (binary m) end) = Unit {0}
 IsOfBytes _ = ⊥
 
--- The types of offsets: integers that are never null.
+-- The types of offsets: non-nullable integers.
 abbrev pub IsOfOffsets : Typ → Type 0
 IsOfOffsets (node (primitive p NonNullable) end) = IsTrue (is_integer p)
 IsOfOffsets _ = ⊥

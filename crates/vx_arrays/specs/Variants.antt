@@ -8,7 +8,7 @@ use Rattle.vx_array_tree.specs.Body as B
 use Rattle.vx_array_tree.specs.Encodings.Variants.{row_over}
 use Rattle.vx_array_tree.specs.Tree.{Tree, Trees, cells, option_trees, row_at, untold}
 
--- A node of variants over its core and, where one stands, the shredded child: of the core's type, and with as many rows.
+-- A variant node over its core and, if any, the shredded child: of the core's type, and with as many rows.
 abbrev pub variant_tree : Tree → Option Tree → Tree
 variant_tree core shredded = node (untold (label core).dtype (label core).len B.variant) (more core (option_trees shredded))
 
@@ -25,7 +25,7 @@ abbrev pub IsOfVariants : Typ → Type 0
 IsOfVariants (node (variant_kind m) end) = Unit {0}
 IsOfVariants _ = ⊥
 
--- Each of these arrays has so many rows.
+-- Each of these arrays has n rows.
 abbrev pub AreRows : ℕ → Trees → Type 0
 AreRows n end = Unit {0}
 AreRows n (more t ts) = ((label t).len ≡ n) × AreRows n ts

@@ -1,4 +1,4 @@
-//! Arrays, each a tree of nodes, and what they tell of themselves.
+//! Arrays, each a tree of nodes, and their parts.
 
 ghost use Rattle.std.specs.Prelude.{◌≡◌, ◌<◌, ◌≤◌, ◌==◌, ◌+◌, length, IfOk, IfErr, OnOk, OnErr, IsOk, IsOkUnless, IsTrue, IsFalse, Some, slice_get};
 ghost use Rattle.vx_trees.specs.Everywhere.{EverywhereBelow};
@@ -39,7 +39,7 @@ pub struct Array {
     children: Vec<Array>,
 }
 
-// An array falls by a call of this, wherever one falls, and not part by part.
+// Drops an array by one call: where arrays are dropped implicitly, proofs then do not go through their parts.
 impl Drop for Array {
     #[cycle(dropping)]
     fn drop(self) {
@@ -136,7 +136,7 @@ impl Array {
         self.len == 0
     }
 
-    /// What is told of the rows. Arrays are made without statistics.
+    /// The statistics of the root. Constructors set none.
     pub fn statistics(&self) -> &StatsSet
         ensures stats { result.now ≡ (label self.now).stats }
         ensures fits { FitStats (label self.now).dtype (label self.now).stats }
@@ -144,8 +144,8 @@ impl Array {
         &self.stats
     }
 
-    /// Other statistics in place of those that were told, at the root alone. `BadScalar` exactly
-    /// where one of them is no value of its type; the array then stays as it was.
+    /// Replaces the statistics of the root alone. `BadScalar` exactly where a statistic is no value of its type; the
+    /// array then stays as it was.
     pub fn set_all(&mut self, stats: StatsSet) -> Result<(), TypeError>
         ensures ok { OnOk result (self.new ≡ with_stats stats self.old) }
         ensures fits { OnOk result (FitStats (label self.old).dtype stats) }
@@ -182,7 +182,7 @@ impl Array {
         self.body.encoding_id()
     }
 
-    /// Whether the root is foreign: nothing is known of its encoding.
+    /// Whether the root is foreign, of an unregistered encoding.
     pub fn is_foreign(&self) -> bool
         ensures foreign { IsTrue result → encoding_of (label self.now).body ≡ E.foreign }
         ensures native { IsFalse result → IsNative (label self.now).body }
@@ -190,7 +190,7 @@ impl Array {
         matches!(self.body(), Body::Foreign(_))
     }
 
-    /// The arrays below the root, in the order in which they are written.
+    /// The root's children, in wire order.
     pub fn children(&self) -> &[Array]
         ensures children { roses_of result.now ≡ below self.now }
         ensures sound { EverywhereBelow IsSoundNode (below self.now) }
@@ -205,7 +205,7 @@ impl Array {
         self.body.nbuffers()
     }
 
-    /// The root's buffer of this number.
+    /// The root's buffer at an index.
     pub fn buffer(&self, index: usize) -> &BufferHandle
         requires { index < length (buffers_of (label self.now).body) }
         ensures { slice_get (buffers_of (label self.now).body) index ≡ Some result.now }
@@ -213,7 +213,7 @@ impl Array {
         self.body.buffer(index)
     }
 
-    /// Checks the whole tree. Since no other array can be made, the answer is always Ok.
+    /// Checks the whole tree. Constructors make no unsound array, so the answer is always Ok.
     pub fn validate(&self) -> Result<(), ArrayError>
         ensures ok { IsOk result }
         ensures sound { IsSound self.now }
@@ -222,7 +222,7 @@ impl Array {
         Ok(())
     }
 
-    // The row's value, if there are cells to spend for it.
+    // The row's value, if the budget has cells for it.
     #[cycle(rows)]
     #[tactic(auto, using(crate::proofs::Counted::counted))]
     pub(crate) fn row_within(
@@ -252,7 +252,7 @@ impl Array {
         self.row_within(alloc, index, &mut left)
     }
 
-    /// The same array again. No buffer's bytes are copied.
+    /// A copy that shares the buffers' bytes.
     #[tactic(auto, using(vx_trees::proofs::Roses::roses))]
     pub fn clone(&self, alloc: Global) -> Result<Array, ArrayError>
         ensures ok { IfOk result (λ a. a ≡ self.now) }

@@ -1,4 +1,4 @@
-//! What a node's encoding holds beside its type, its rows and its children: a line for each encoding.
+//! What a node holds beside its type, its length and its children, by encoding.
 
 ghost use Rattle.std.specs.Prelude.{◌↔◌, IsTrue};
 ghost use Rattle.vx_array_tree.specs.Table.{IsNative};
@@ -9,7 +9,7 @@ mod clone;
 mod encoding_id;
 mod nbuffers;
 
-/// What a node's encoding holds beside its type, its rows and its children.
+/// What a node holds beside its type, its length and its children.
 #[derive(Drop)]
 pub enum Body {
     Null, // nothing: each row is null
@@ -33,7 +33,7 @@ pub enum Body {
 impl Body {
     ghost use Rattle.vx_arrays.specs.Plain.{plain_body};
 
-    // Whether the encoding is known.
+    // Whether the encoding is registered rather than foreign.
     pub(crate) fn is_native(&self) -> bool
         ensures { IsTrue result ↔ IsNative (plain_body self.now) }
     {

@@ -1,5 +1,5 @@
-//! Arrays over their children: the one place where a node that has children is made, once it is known of what shape and
-//! content they are, and that no foreign node stands where it says where rows are.
+//! Arrays over their children. This is the one place where a node with children is made, after its shape, its control
+//! children and its content are judged.
 
 ghost use Rattle.std.specs.Prelude.{◌≡◌, ◌↔◌, IfOk, IfErr, OnOk, IsTrue};
 ghost use Rattle.vx_trees.specs.Everywhere.{EverywhereBelow};
@@ -18,8 +18,8 @@ use crate::control::is_controlled;
 use vx_rows::ArrayError;
 use vx_types::DType;
 
-// Why parts are refused that are of the shape of their encoding where `shaped` says so, and then, where it is known which
-// say where rows are, of right content where `right` does.
+// Judges parts: `shaped` says whether they have their encoding's shape, and `right` whether their content is right
+// where the control children are known.
 fn judge(
     dtype: &DType,
     len: usize,
@@ -48,9 +48,9 @@ fn judge(
     Ok(())
 }
 
-// The array of a node over these children, which are of the shape that its encoding asks for exactly where `shaped` says
-// so, and then, where no foreign node says where rows are, of right content exactly where `right` does. Of others `right` may
-// say anything: content is judged row by row, and nothing bounds how many rows a foreign node has.
+// The array of a node over these children. `shaped` says whether they have the shape that its encoding requires, and
+// `right` whether their content is right where no control child holds a foreign node. Otherwise `right` may be
+// anything: content is judged row by row, and nothing bounds the number of rows of a foreign node.
 pub(crate) fn over_children(
     dtype: DType,
     len: usize,
@@ -71,7 +71,7 @@ pub(crate) fn over_children(
     match judge(&dtype, len, &body, children.as_slice(), shaped, right) {
         Ok(()) => Ok(Array::from_parts(dtype, len, body, children)),
         Err(error) => {
-            // A body that falls by itself is taken apart here, case by case.
+            // Dropped explicitly: an implicit drop splits the proof into a case for each encoding.
             drop(body);
             Err(error)
         }

@@ -1,5 +1,5 @@
-//! Whether what says where a node's rows are is known: a foreign node stands in no validity, codes, offsets, sizes or tags,
-//! and is no entries of maps.
+//! Whether a node's control children are known: no foreign node stands in a validity, codes, offsets, sizes or tags,
+//! or as the entries of maps.
 
 ghost use Rattle.std.specs.Prelude.{◌≡◌, ◌↔◌, IsTrue};
 ghost use Rattle.vx_trees.specs.Rose.{roses_of};
@@ -36,7 +36,7 @@ impl Array {
     }
 }
 
-// Whether of a node of the right shape that is known which says where its rows are.
+// Whether the control children of a node of the right shape are known.
 pub(crate) fn is_controlled(dtype: &DType, len: usize, body: &Body, children: &[Array]) -> bool
     requires { IsWellShaped (untold (typ dtype.now) len (plain_body body.now)) (roses_of children.now) }
     ensures { IsTrue result ↔ IsControlled (untold (typ dtype.now) len (plain_body body.now)) (roses_of children.now) }
@@ -53,7 +53,7 @@ pub(crate) fn is_controlled(dtype: &DType, len: usize, body: &Body, children: &[
     true
 }
 
-// Whether the entries of a node of maps are not foreign.
+// Whether the entries of a map node are not foreign.
 fn has_native_entries(body: &Body, children: &[Array]) -> bool
     ensures { IsTrue result ↔ HasNativeEntries (encoding_of (plain_body body.now)) (roses_of children.now) }
 {
@@ -63,7 +63,7 @@ fn has_native_entries(body: &Body, children: &[Array]) -> bool
     }
 }
 
-// Whether the child of this number, of so many, says where rows are.
+// Whether the child at an index, of n children, is a control child.
 fn is_control(dtype: &DType, body: &Body, count: usize, index: usize) -> bool
     requires { encoding_of (plain_body body.now) ≡ E.struct → IsOfFields (typ dtype.now) }
     ensures { result ≡ is_control (encoding_of (plain_body body.now)) (typ dtype.now) count index }
@@ -78,7 +78,7 @@ fn is_control(dtype: &DType, body: &Body, count: usize, index: usize) -> bool
     }
 }
 
-// Whether the first of so many children of a node of structures is a validity.
+// Whether the first of n children of a struct node is a validity.
 fn has_front(dtype: &DType, count: usize) -> bool
     requires { IsOfFields (typ dtype.now) }
     ensures { result ≡ has_validity (typ dtype.now) count }

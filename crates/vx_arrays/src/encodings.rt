@@ -1,4 +1,4 @@
-//! The rooms of the encodings: all that is said of one stands in the file named after it.
+//! One module for each encoding.
 
 pub(crate) mod bool;
 pub(crate) mod decimal;

@@ -1,8 +1,7 @@
-//! Arrays as sound trees: a type, a number of rows, an encoding's buffers, and the arrays below.
+//! Arrays as sound trees: a type, a length, an encoding's buffers, and child arrays.
 //!
-//! Contracts see an [`Array`] as the plain tree of `vx_array_tree`. All code of an encoding stands in its own file of
-//! `encodings`. A file of `array`, `body` or `slots`, and `control`, asks one thing of all encodings, and hands on to
-//! those files by a line for each.
+//! Contracts see an [`Array`] as the plain tree of `vx_array_tree`. All code of an encoding is in its file of
+//! `encodings`. Each file of `array`, `body` and `slots`, and `control`, dispatches one question to the encodings.
 #![tactic(auto)]
 
 mod array;

@@ -44,8 +44,7 @@ impl Arrays {
         }
     }
 
-    /// One more array at the end. Where there is no memory for it, the list stays as it was, and the array
-    /// is dropped.
+    /// Appends an array. On allocation failure the list stays as it was, and the array is dropped.
     pub fn push(&mut self, array: Array) -> Result<(), ArrayError>
         ensures ok { OnOk result (roses_list self.new ≡ roses_list self.old ++ array ∷ []) }
         ensures unchanged { OnErr result (self.new ≡ self.old) }
@@ -56,7 +55,7 @@ impl Arrays {
         Ok(())
     }
 
-    // One more array at the end, where it stands.
+    // Appends an array, if any.
     pub(crate) fn push_some(&mut self, array: Option<Array>) -> Result<(), ArrayError>
         ensures ok { OnOk result (roses_list self.new ≡ roses_list self.old ++ roses_list (option_trees array)) }
         ensures err { IsOkUnless result ArrayError.OutOfMemory }
@@ -67,7 +66,7 @@ impl Arrays {
         }
     }
 
-    // One more array in front.
+    // Puts an array in front.
     pub(crate) fn put_first(&mut self, array: Array) -> Result<(), ArrayError>
         ensures ok { OnOk result (self.new ≡ more array self.old) }
         ensures err { IsOkUnless result ArrayError.OutOfMemory }
@@ -77,7 +76,7 @@ impl Arrays {
         Ok(())
     }
 
-    /// Takes the first array out of the list.
+    /// Removes and returns the first array.
     pub fn remove_first(&mut self) -> Array
         requires { 1 ≤ count self.old }
         ensures { more result self.new ≡ self.old }
@@ -100,7 +99,7 @@ impl Arrays {
         self.items.as_slice()
     }
 
-    /// The arrays in their order, handed over.
+    /// The arrays in their order, by value.
     pub fn into_vec(self) -> Vec<Array>
         ensures items { roses_of result.items ≡ self }
         ensures sound { EverywhereBelow IsSoundNode self }

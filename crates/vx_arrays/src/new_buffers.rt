@@ -22,11 +22,11 @@ use vx_scalars::StatsSet;
 use vx_types::DType;
 
 impl Array {
-    /// The array that has these buffers at its root in the place of its own, in their order: of the same type, length,
+    /// The array with these buffers at its root in place of its own, in their order, and the same type, length,
     /// children and statistics.
     ///
     /// `BadShape` where the encoding has another number of buffers, or where these do not hold the rows; `BadContent`
-    /// where their content is broken. A foreign node takes any.
+    /// where a content rule is broken. A foreign node takes any buffers.
     pub fn with_buffers(&self, alloc: Global, buffers: BufferHandles) -> Result<Array, ArrayError>
         ensures ok { IfOk result (λ a. with_buffers self.now buffers ≡ Some a) }
         ensures sound { IfOk result IsSound }
@@ -42,7 +42,7 @@ impl Array {
     }
 }
 
-// The one buffer, where there is one alone.
+// The only buffer, if there is exactly one.
 pub(crate) fn only_buffer(buffers: BufferHandles) -> Option<BufferHandle>
     ensures one { IfSome result (λ b. buffers ≡ b ∷ []) }
     ensures none { IfNone result (length buffers ≡ 1 → ⊥) }
@@ -54,7 +54,7 @@ pub(crate) fn only_buffer(buffers: BufferHandles) -> Option<BufferHandle>
     items.pop()
 }
 
-// The validity that a node of `len` rows has as its only child, where it has one, once more.
+// A copy of the validity that a node of `len` rows has as its only child, if any.
 pub(crate) fn copied_validity(
     alloc: Global,
     children: &[Array],
@@ -70,7 +70,7 @@ pub(crate) fn copied_validity(
     }
 }
 
-// The array of a node that holds no buffers, once more without statistics, where none are to stand in their place.
+// A copy of the array of a node without buffers, without statistics; new buffers are refused.
 pub(crate) fn without_buffers(
     alloc: Global,
     dtype: &DType,
@@ -97,7 +97,7 @@ pub(crate) fn without_buffers(
     once_more(alloc, dtype, len, body, children)
 }
 
-// The array of a node once more, without statistics.
+// A copy of a node's array, without statistics.
 pub(crate) fn once_more(
     alloc: Global,
     dtype: &DType,
@@ -125,7 +125,7 @@ pub(crate) fn once_more(
     }
 }
 
-// The children of a node once more.
+// Copies of a node's children.
 fn copied_children(alloc: Global, children: &[Array]) -> Result<Vec<Array>, ArrayError>
     ensures ok { IfOk result (λ copies. copies.items ≡ children.now) }
     ensures err { IsOkUnless result ArrayError.OutOfMemory }

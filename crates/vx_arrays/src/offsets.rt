@@ -12,7 +12,7 @@ use crate::array::Array;
 use crate::plain_offsets::{are_plain_offsets, plain_numbers};
 use vx_types::{DType, Nullability};
 
-// A row as a natural number: 0 where the row is not known; None where it is there and no natural number.
+// A row as a natural number: 0 where the row is opaque; None where it is valid and no natural number.
 pub(crate) fn index_at(array: &Array, index: usize) -> Option<u64>
     requires inside { index < (label array.now).len }
     ensures value { IfSome result (λ n. n ≡ index_at (rows_of array.now) index) }
@@ -31,8 +31,7 @@ pub(crate) fn index_at(array: &Array, index: usize) -> Option<u64>
     }
 }
 
-// Whether rows are offsets: natural numbers that never fall, up to the one after the last part, which is at most a
-// total.
+// Whether rows are offsets: natural numbers that never decrease, of which the last is at most a total.
 pub(crate) fn are_offsets(offsets: &Array, parts: usize, total: usize) -> bool
     requires counted { (label offsets.now).len ≡ suc parts }
     ensures { IsTrue result ↔ AreOffsets (rows_of offsets.now) parts total }
@@ -75,7 +74,7 @@ pub(crate) fn is_of_offsets(dtype: &DType) -> bool
     }
 }
 
-// Whether an array may be the offsets of so many parts: there is one more of them, and they are of a type of offsets.
+// Whether an array may be the offsets of `len` parts: it has one more row, and an integer type that is not nullable.
 pub(crate) fn are_counted(offsets: &Array, parts: usize) -> bool
     ensures kind { IsTrue result → IsOfOffsets (label offsets.now).dtype }
     ensures counted { IsTrue result → (label offsets.now).len ≡ suc parts }
@@ -88,7 +87,7 @@ pub(crate) fn are_counted(offsets: &Array, parts: usize) -> bool
     }
 }
 
-// An offset among right ones: 0 where it is not known.
+// An offset among right ones: 0 where it is opaque.
 #[tactic(auto, using(crate::proofs::Rising::parts))]
 pub(crate) fn offset_at(offsets: &Array, parts: usize, total: usize, index: usize) -> usize
     requires counted { (label offsets.now).len ≡ suc parts }

@@ -1,7 +1,7 @@
-//! Of what a row is made, before it is built, and how it is built of that.
+//! The parts of a row before it is built, and how it is built from them.
 //!
-//! An encoding's file says of what a row of its nodes is made, without memory. The one recursion over the arrays below a
-//! node stands here: it builds rows of their parts, and spends cells before it takes memory for them.
+//! Each encoding gives the parts of its rows without allocating. The one recursion over the arrays below a node is
+//! here: it builds rows from their parts, and spends cells before it allocates for them.
 
 ghost use Rattle.std.specs.Prelude.{ℕ, false, ◌≡◌, ◌+◌, ◌^◌, ◌<◌, ◌≤◌, IfOk, IfErr, OnOk};
 ghost use Rattle.vx_trees.specs.Rose.{label, roses_of};
@@ -25,23 +25,23 @@ use vx_rows::{
 use vx_scalars::DecimalValue;
 use vx_types::{DType, PValue};
 
-// Of what a row is made.
+// The parts of a row.
 #[derive(Clone, Copy)]
 pub(crate) enum RowParts<'a> {
-    // Of no other rows.
+    // No other rows.
     Lone(LoneRow<'a>),
     // A row of another array.
     At {
         array: &'a Array,
         index: usize,
     },
-    // A tuple of so many rows of an array, from one on.
+    // A tuple of n rows of an array, from a start on.
     Run {
         array: &'a Array,
         start: usize,
         count: usize,
     },
-    // A tuple of each array's row of this number.
+    // A tuple of each array's row at an index.
     Across {
         arrays: &'a [Array],
         index: usize,
@@ -60,7 +60,7 @@ pub(crate) enum RowParts<'a> {
     },
 }
 
-// The parts of a row, where it is there; a row that is not there is null, and one of which that is not known is opaque.
+// The parts of a row by its validity: a row that is not valid is null, and one of unknown validity is opaque.
 pub(crate) fn where_there<'a>(valid: Option<bool>, parts: RowParts<'a>) -> RowParts<'a>
     requires { AreThere parts }
     ensures value { (f : ℕ → Value) (i : ℕ) → parts_value parts.entry ≡ f i → parts_value result ≡ where_valid valid f i }
@@ -75,7 +75,7 @@ pub(crate) fn where_there<'a>(valid: Option<bool>, parts: RowParts<'a>) -> RowPa
     }
 }
 
-// The value of a row of these parts, if there are cells to spend for it.
+// The value of a row of these parts, if the budget has cells for it.
 #[cycle(rows)]
 #[tactic(auto, using(crate::proofs::Counted::counted))]
 pub(crate) fn built(
@@ -118,7 +118,7 @@ pub(crate) fn built(
     }
 }
 
-// The value of a typed array's row over a core's, if there are cells to spend for the greatest of it and of these two rows.
+// The value of a typed array's row over a core's, if the budget has cells for the greatest of it and these two rows.
 #[cycle(rows)]
 #[tactic(auto, using(crate::proofs::Counted::counted))]
 fn merged_value(
@@ -153,7 +153,7 @@ fn merged_value(
     }
 }
 
-// A row of a type over a core's row, if there are cells to spend for it.
+// A row of a type over a core's row, if the budget has cells for it.
 fn spent_over(
     alloc: Global,
     dtype: &DType,
@@ -171,7 +171,7 @@ fn spent_over(
     spent_row(row, budget)
 }
 
-// The values of so many rows of an array, from one on, if there are cells to spend for all of them.
+// The values of n rows of an array, from a start on, if the budget has cells for all of them.
 #[cycle(rows)]
 fn run_values(
     alloc: Global,
@@ -194,7 +194,7 @@ fn run_values(
     Ok(values)
 }
 
-// The values of each array's row of this number, if there are cells to spend for all of them.
+// The values of each array's row at an index, if the budget has cells for all of them.
 #[cycle(rows)]
 fn across_values(
     alloc: Global,

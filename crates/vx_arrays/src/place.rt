@@ -9,7 +9,7 @@ ghost use Rattle.vx_array_tree.specs.Tree.{array_place};
 use crate::array::Array;
 use vx_types::DType;
 
-/// Whether an array is of this type and has so many rows.
+/// Whether an array is of this type and has n rows.
 pub(crate) fn stands_at(array: &Array, dtype: &DType, len: usize) -> bool
     ensures { IsTrue result ↔ (array_place array.now ≡ place (typ dtype.now) len) }
 {

@@ -1,4 +1,4 @@
-//! Offsets that stand as numbers in a buffer, with no validity over them.
+//! Offsets as plain numbers in a buffer, without a validity.
 
 ghost use Rattle.std.specs.Prelude.{suc, ℕ, Some, ◌≡◌, ◌<◌, ◌≤◌, ◌↔◌, ◌+◌, ◌*◌, ◌^◌, IfSome, IsTrue, length};
 ghost use Rattle.vx_trees.specs.Rose.{label};
@@ -15,11 +15,11 @@ use crate::array::Array;
 use crate::body::Body;
 use vx_types::{DType, PType};
 
-// Numbers without a sign, each with its lowest byte first.
+// Unsigned numbers, little-endian.
 trait Unsigned {
     ghost kind: { Kind };
 
-    // How many numbers stand in bytes that hold numbers alone.
+    // How many numbers the bytes hold.
     fn count_in(bytes: &[u8]) -> usize
         ensures { (n : ℕ) → length bytes.now ≡ width_of kind * n → result ≡ n };
 
@@ -80,7 +80,7 @@ impl Unsigned for u64 {
     }
 }
 
-// The kind and the bytes of an array of numbers without a validity; None of any other array.
+// The kind and the bytes of a primitive array without a validity; None of any other array.
 pub(crate) fn plain_numbers(array: &Array) -> Option<(PType, &[u8])>
     ensures rows { IfSome result (λ x. rows_of array.now ≡ plain_rows x.0 (label array.now).len x.1.now) }
     ensures filled { IfSome result (λ x. length x.1.now ≡ width_of x.0 * (label array.now).len) }
@@ -94,8 +94,8 @@ pub(crate) fn plain_numbers(array: &Array) -> Option<(PType, &[u8])>
     }
 }
 
-// Whether numbers of this kind are offsets. Those with a sign are read as if they had none, for then the ones below 0
-// are above all others, and above what the last may be.
+// Whether numbers of this kind are offsets. Signed numbers are read as unsigned ones: those below 0 are then greater
+// than all others, and than the total.
 pub(crate) fn are_plain_offsets(kind: PType, bytes: &[u8], parts: usize, total: usize) -> bool
     requires filled { length bytes.now ≡ width_of kind * suc parts }
     requires few { suc parts < 2 ^ 64 }
@@ -114,7 +114,7 @@ pub(crate) fn are_plain_offsets(kind: PType, bytes: &[u8], parts: usize, total: 
     }
 }
 
-// Whether numbers never fall, up to the one after the last part, which is at most a total.
+// Whether numbers never decrease, and the last is at most a total.
 #[tactic(auto, using(crate::proofs::PlainOffsets::plain))]
 fn are_rising<T: Unsigned>(bytes: &[u8], parts: usize, total: usize) -> bool
     requires filled { length bytes.now ≡ width_of T.kind * suc parts }

@@ -1,5 +1,4 @@
-//! Equality of arrays, and their hashes: of all but their statistics, the alignments of their buffers and the flags of
-//! dictionaries.
+//! Equality and hashes of arrays: of all but statistics, alignments of buffers and the flags of dictionaries.
 
 ghost use Rattle.std.specs.Prelude.{◌≡◌, ◌↔◌, fold, IsTrue};
 ghost use Rattle.vx_trees.specs.Rose.{label, below, count};
@@ -9,10 +8,9 @@ use crate::array::Array;
 use std::hash::{Hash, Hasher};
 
 impl Array {
-    /// Whether the arrays are equal: of the same encoding, type and length, with the same bytes in their buffers, equal
-    /// children, and the same of what an encoding keeps beside these, as a bit offset, the width of decimals or a foreign
-    /// node's metadata. Compared are neither statistics nor the alignments of buffers, nor whether all values of a
-    /// dictionary are referenced.
+    /// Whether the arrays are equal: the same encoding, type and length, the same bytes in their buffers, equal
+    /// children, and equal other parts of an encoding (a bit offset, the width of decimals, a list view's flag, a
+    /// foreign node's metadata). Statistics, alignments of buffers and a dictionary's flag are not compared.
     #[tactic(auto, using(vx_trees::proofs::Roses::roses))]
     pub fn array_eq(&self, other: &Array) -> bool
         ensures { IsTrue result ↔ IsSame self.now other.now }
@@ -30,7 +28,7 @@ impl Array {
         true
     }
 
-    // Whether the roots are equal but for their children, and have as many.
+    // Whether the roots are equal but for their children, and have the same number of these.
     #[tactic(auto, using(vx_trees::proofs::Sameness::sameness, crate::proofs::Comparing::roots))]
     fn has_root_of(&self, other: &Array) -> bool
         ensures { IsTrue result ↔ (compared_head (label self.now) ≡ compared_head (label other.now)) × (count (below self.now) ≡ count (below other.now)) }
@@ -47,8 +45,8 @@ impl Array {
         self.body().array_eq(other.body())
     }
 
-    /// Feeds the array to a hash: of each node, in preorder, the identifier of its encoding, its length and the bytes of
-    /// its buffers. Equal arrays are fed alike, and so are some that differ, as by their types alone.
+    /// Hashes the array: of each node, in preorder, the identifier of its encoding, its length and the bytes of its
+    /// buffers. Equal arrays have equal hashes, and so have some that differ, as by their types alone.
     #[tactic(auto, using(vx_trees::proofs::Roses::roses))]
     pub fn array_hash<H: Hasher>(&self, state: &mut H)
         ensures { state.new ≡ fold H.write state.old (fed_array (compared self.now)) }
@@ -59,7 +57,7 @@ impl Array {
         }
     }
 
-    // Feeds the root without its children to a hash.
+    // Hashes the root without its children.
     fn hash_root<H: Hasher>(&self, state: &mut H)
         ensures { state.new ≡ fold H.write state.old (fed_head (label self.now)) }
     {

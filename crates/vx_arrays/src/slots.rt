@@ -18,15 +18,15 @@ use vx_rows::{ArrayError, owned_text};
 use vx_types::{DType, Name, Names};
 
 impl Array {
-    /// How many slots the root has: one for each child that a node of its encoding and type may have, also where the
-    /// child is absent. A foreign node has one for each child.
+    /// How many slots the root has: one for each child that a node of its encoding and type may have, absent or not.
+    /// A foreign node has one for each child.
     pub fn nslots(&self) -> usize
         ensures { result ≡ length (slot_names (label self.now).dtype (label self.now).body (count (below self.now))) }
     {
         slots_of(self.dtype(), self.body(), self.children().len())
     }
 
-    /// The name of the root's slot of this number: that of the child which stands there, or may.
+    /// The name of the root's slot at an index: that of the child which stands there, or may.
     pub fn slot_name(&self, alloc: Global, index: usize) -> Result<Name, ArrayError>
         requires { index < length (slot_names (label self.now).dtype (label self.now).body (count (below self.now))) }
         ensures ok { IfOk result (λ name. slice_get (slot_names (label self.now).dtype (label self.now).body (count (below self.now))) index ≡ Some name) }
@@ -48,7 +48,7 @@ pub(crate) fn numbered(alloc: Global, word: &str, index: usize) -> Result<Name, 
     owned_text(alloc, text.as_str())
 }
 
-// The names of the fields of a type of structures, and of the members of one of unions.
+// The names of the fields of a struct type, and of the members of one of unions.
 pub(crate) fn members_of(dtype: &DType) -> Option<&Names>
     ensures some { IfSome result (λ names. names.now ≡ member_names (typ dtype.now)) }
     ensures none { IfNone result (member_names (typ dtype.now) ≡ []) }
@@ -60,7 +60,7 @@ pub(crate) fn members_of(dtype: &DType) -> Option<&Names>
     }
 }
 
-// The name of the field, or of the member, of this number.
+// The name of the field or member at an index.
 pub(crate) fn member_of(dtype: &DType, index: usize) -> &str
     requires { index < length (member_names (typ dtype.now)) }
     ensures { slice_get (member_names (typ dtype.now)) index ≡ Some result.now }

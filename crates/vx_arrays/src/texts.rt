@@ -35,7 +35,7 @@ pub(crate) fn part_at<'a>(bytes: &'a [u8], offsets: &Array, parts: usize, index:
     &bytes[start as usize..end as usize]
 }
 
-// Whether the parts of the rows that are there are texts.
+// Whether the parts of the valid rows are texts.
 pub(crate) fn are_texts(
     bytes: &[u8],
     offsets: &Array,
@@ -55,7 +55,7 @@ pub(crate) fn are_texts(
     true
 }
 
-// Whether a row's part is a text, where the row is there.
+// Whether a row's part is a text, where the row is valid.
 fn is_text_at(
     bytes: &[u8],
     offsets: &Array,
@@ -76,7 +76,7 @@ fn is_text_at(
     }
 }
 
-// Whether bytes are as a type of texts or of bytes asks for.
+// Whether bytes fit a type of texts or of bytes.
 pub(crate) fn is_content(dtype: &DType, bytes: &[u8]) -> bool
     ensures { IsTrue result ↔ IsContent (typ dtype.now) bytes.now }
 {

@@ -1,4 +1,4 @@
-//! The validity of a node: the child that says which rows are there.
+//! The validity of a node: the child that says which rows are valid.
 
 ghost use Rattle.std.specs.Prelude.{◌≡◌, ◌<◌, ◌≤◌, ◌↔◌, ℕ, [], Some, false, IfErr, IfOk, IsTrue, IsOkUnless, length};
 ghost use Rattle.vx_trees.specs.Everywhere.{EverywhereBelow};
@@ -26,8 +26,8 @@ use vx_buffer::{BufferHandle, ByteBuffer};
 use vx_rows::ArrayError;
 use vx_types::{DType, Nullability};
 
-// Whether a row is there, by the validity that a node of `len` rows may have as its only child; None where that
-// is not known. Where no validity stands, each row is there.
+// Whether a row is valid, by the validity that a node of `len` rows may have as its only child; None where it is
+// opaque. Without a validity each row is valid.
 #[cycle(naturals)]
 pub(crate) fn validity_at(children: &[Array], len: usize, index: usize) -> Option<bool>
     requires planned { before_validity [] len (count (roses_of children.now)) ≡ Some (places (roses_of children.now)) }
@@ -81,14 +81,14 @@ pub(crate) fn only_validity(
     ensures children { IfOk result (λ children. roses_of children.items ≡ option_trees validity) }
     ensures err { IsOkUnless result ArrayError.OutOfMemory }
 {
-    // Most nodes of wide tables have a validity alone, so the list has room for no more.
+    // Most nodes of wide tables have a validity alone, so the list has a capacity of one.
     match validity {
         None => Ok(Vec::new(alloc)),
         Some(array) => only_child(alloc, array),
     }
 }
 
-// A list of one array, with room for no more.
+// A list of one array, of capacity one.
 fn only_child(alloc: Global, array: Array) -> Result<Vec<Array>, ArrayError>
     ensures children { IfOk result (λ children. roses_of children.items ≡ more array end) }
     ensures err { IsOkUnless result ArrayError.OutOfMemory }
@@ -99,8 +99,8 @@ fn only_child(alloc: Global, array: Array) -> Result<Vec<Array>, ArrayError>
     }
 }
 
-// The array of a node that has at most a validity below and no rules on its content, which is of its encoding's shape
-// where `shaped` says so.
+// The array of a node that has at most a validity below and no content rules; `shaped` says whether it has its
+// encoding's shape.
 pub(crate) fn over_validity(
     alloc: Global,
     dtype: DType,
@@ -126,7 +126,7 @@ pub(crate) fn over_validity(
     }
 }
 
-// Whether arrays are the validity of so many rows, or none: what stands after a node's other children.
+// Whether the arrays after a node's other children are the validity of `len` rows, or none.
 pub(crate) fn stands_behind(nullability: Nullability, behind: &[Array], len: usize) -> bool
     ensures { IsTrue result ↔ IsValidity nullability len (roses_of behind.now) }
 {
@@ -213,7 +213,7 @@ pub(crate) fn with_validity(
     }
 }
 
-/// The validity of `len` rows of which none is there: a bit of 0 for each, in the fewest bytes.
+/// The validity of `len` rows that are all null: a bit of 0 for each, in the fewest bytes.
 #[tactic(auto, using(crate::proofs::AllInvalid::all_invalid_steps))]
 pub fn validity_all_invalid(alloc: Global, len: usize) -> Result<Array, ArrayError>
     ensures ok { IfOk result (λ a. a ≡ all_invalid len) }

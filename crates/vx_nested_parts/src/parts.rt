@@ -12,7 +12,7 @@ use vx_types::{
     TypeError, TypeIds, UnionVariants,
 };
 
-/// Which of at most eight rows are there.
+/// Which of at most eight rows are valid.
 #[derive(Clone, Copy, Debug)]
 pub enum There {
     /// All rows, since the type lets none be null.
@@ -49,7 +49,7 @@ pub fn both<A: Drop, B: Drop, E: Drop>(
     Ok((first, second))
 }
 
-/// Whether a type lets rows be null.
+/// The nullability that goes with it.
 pub fn nullability(there: There) -> Nullability {
     match there {
         There::Always | There::Unasked(_) => Nullability::NonNullable,
@@ -70,7 +70,7 @@ pub fn nulls(alloc: Global, len: usize) -> Made {
     NullArray::new(alloc, len)
 }
 
-/// Unsigned numbers of a byte, none of them null.
+/// Unsigned numbers of one byte, none of them null.
 pub fn bytes(alloc: Global, bytes: &[u8]) -> Made {
     numbers(alloc, PType::U8, bytes, There::Always)
 }
@@ -230,7 +230,7 @@ fn fields(alloc: Global, names: &[&str], arrays: AllMade) -> Result<StructFields
     }
 }
 
-// `len` structures of these columns, some of which may be null.
+// `len` structs of these columns, some of which may be null.
 fn structs_of(
     alloc: Global,
     fields: Result<StructFields, ArrayError>,
@@ -243,7 +243,7 @@ fn structs_of(
     StructArray::try_new(alloc, fields, nullability(there), columns, len, validity)
 }
 
-/// `len` structures: the fields' names, arrays of their types, and the columns.
+/// `len` structs: the fields' names, arrays of their types, and the columns.
 pub fn structs(
     alloc: Global,
     names: &[&str],
@@ -355,13 +355,13 @@ fn unknown_of(alloc: Global, id: Result<Id, TypeError>, dtype: DType, len: usize
     new_foreign_array(alloc, id, dtype, len, metadata, buffers, Arrays::new(alloc))
 }
 
-/// `len` variants of which nothing is known, which may be null.
+/// `len` opaque variants, which may be null.
 pub fn unknown_variants(alloc: Global, len: usize) -> Made {
     let dtype = DType::Variant(Nullability::Nullable);
     unknown_of(alloc, Id::new(alloc, "x.core"), dtype, len)
 }
 
-/// `len` unsigned numbers of a byte of which nothing is known, none of them null.
+/// `len` unsigned numbers of an opaque byte, none of them null.
 pub fn unknown_bytes(alloc: Global, len: usize) -> Made {
     let dtype = DType::Primitive(PType::U8, Nullability::NonNullable);
     unknown_of(alloc, Id::new(alloc, "x.bytes"), dtype, len)

@@ -9,7 +9,7 @@ use vx_arrays::{Array, ArrayError, RowValue};
 use vx_scalars::Scalar;
 use vx_types::PValue;
 
-// The text of a value: a text is its own, lists, structures and maps are `[a, b]`, a union is `#5(a)`, and a variant
+// The text of a value: a text is its own, lists, structs and maps are `[a, b]`, a union is `#5(a)`, and a variant
 // `v(a)`.
 #[cycle(text)]
 fn text_of(alloc: Global, value: &RowValue) -> Result<String, AllocError> {
@@ -100,7 +100,7 @@ fn has_text(alloc: Global, value: &RowValue, text: &str) -> bool {
     }
 }
 
-// Whether a row is there or not.
+// Whether a row is valid or not.
 fn is_there(array: &Array, index: usize, there: bool) -> bool {
     if index >= array.len() {
         return false;
@@ -108,7 +108,7 @@ fn is_there(array: &Array, index: usize, there: bool) -> bool {
     array.is_valid(index) == Some(there)
 }
 
-// Whether a row has this text, and is there unless that is null.
+// Whether a row has this text, and is valid unless that is null.
 fn is_row(alloc: Global, array: &Array, index: usize, text: &str) -> bool {
     match value_at(alloc, array, index, 1_000) {
         Ok(value) => {
@@ -165,7 +165,7 @@ pub fn takes(alloc: Global, array: Made, cells: u64) -> bool {
     }
 }
 
-// Whether a node's slot of this number has this name.
+// Whether a node's slot at this index has this name.
 fn is_slot(alloc: Global, array: &Array, index: usize, name: &str) -> bool {
     if index >= array.nslots() {
         return false;

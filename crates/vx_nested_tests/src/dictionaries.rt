@@ -8,7 +8,7 @@ use vx_nested_parts::parts::{
 use vx_nested_parts::rows::{has_rows, has_slots, takes};
 use vx_types::PType;
 
-// Three texts that are never null.
+// Three non-nullable texts.
 fn values(alloc: Global) -> Made {
     texts(alloc, b"abc", There::Always)
 }

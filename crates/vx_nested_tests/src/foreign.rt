@@ -1,4 +1,4 @@
-//! Tests of foreign nodes that would say where rows are: they are refused before a row is asked for, since nothing
+//! Tests of foreign nodes that would are control children: they are refused before a row is asked for, since nothing
 //! bounds how many rows they have.
 
 use std::alloc::Global;
@@ -9,7 +9,7 @@ use vx_nested_parts::parts::{
 };
 use vx_types::{DType, Nullability};
 
-// As many numbers as can be counted, of which nothing is known.
+// The greatest number of opaque rows.
 fn unknown(alloc: Global) -> Made {
     unknown_bytes(alloc, usize::MAX)
 }
@@ -62,7 +62,7 @@ fn what_says_where_rows_are_is_known_before_rows_are_judged(rt: HostRuntime) {
     assert!(rt; spelled(alloc).err() == CONTROL);
 }
 
-// Codes that are a dictionary themselves, by codes of which nothing is known.
+// Codes that are a dictionary themselves, by opaque codes.
 #[test]
 fn that_is_so_however_deep_they_stand(rt: HostRuntime) {
     let alloc = rt.alloc();

@@ -17,7 +17,7 @@ fn viewed(alloc: Global, offsets: &[u8], sizes: &[u8], there: There) -> Made {
     views(alloc, elements(alloc), offsets, bytes(alloc, sizes), there)
 }
 
-// Offsets and sizes, which rows are there, and the lists.
+// Offsets and sizes, which rows are valid, and the lists.
 const ROWS: [(&[u8], &[u8], There, &[&str]); 5] = [
     (&[1, 0], &[2, 1], There::Always, &["[2, 3]", "[1]"]),
     (&[1, 0], &[2, 1], There::All, &["[2, 3]", "[1]"]),
@@ -72,7 +72,7 @@ const BROKEN: Option<ArrayError> = Some(ArrayError::BadContent);
 
 const UNFIT: Option<ArrayError> = Some(ArrayError::BadShape);
 
-// A view with an offset and a size of these kinds, which is there where the bit is set.
+// A view with an offset and a size of these kinds, which is valid where the bit is set.
 fn one_view(alloc: Global, offset: (PType, &[u8]), size: (PType, &[u8]), bits: u8) -> Made {
     let offsets = numbers(alloc, offset.0, offset.1, There::Always);
     let sizes = numbers(alloc, size.0, size.1, There::Always);
@@ -81,7 +81,7 @@ fn one_view(alloc: Global, offset: (PType, &[u8]), size: (PType, &[u8]), bits: u
 
 const LAST: &[u8] = b"\xff\xff\xff\xff\xff\xff\xff\xff";
 
-// The offset and the size of a view that is refused where its row is there.
+// The offset and the size of a view that is refused where its row is valid.
 const BAD_VIEWS: [((PType, &[u8]), (PType, &[u8])); 6] = [
     ((PType::U8, &[3]), (PType::U8, &[1])),
     ((PType::U8, &[4]), (PType::U8, &[0])),

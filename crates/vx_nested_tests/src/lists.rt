@@ -16,7 +16,7 @@ fn parted(alloc: Global, offsets: &[u8], there: There) -> Made {
     lists(alloc, elements(alloc), bytes(alloc, offsets), there)
 }
 
-// Offsets of lists, which of these are there, and the lists.
+// Offsets of lists, which of these are valid, and the lists.
 const ROWS: [(&[u8], There, &[&str]); 5] = [
     (&[0, 2, 2, 3], There::Always, &["[1, 2]", "[]", "[3]"]),
     (&[0, 2, 2, 3], There::All, &["[1, 2]", "[]", "[3]"]),
@@ -86,7 +86,7 @@ const BROKEN: Option<ArrayError> = Some(ArrayError::BadContent);
 
 const UNFIT: Option<ArrayError> = Some(ArrayError::BadShape);
 
-// Offsets, which rows are there, and why lists of three elements are not made of them.
+// Offsets, which rows are valid, and why lists of three elements are not made of them.
 const REFUSED: [(&[u8], There, Option<ArrayError>); 6] = [
     (&[0, 2, 1, 3], There::Always, BROKEN),
     (&[0, 2, 1, 3], There::Bits(0), BROKEN),

@@ -15,7 +15,7 @@ fn pairs(alloc: Global) -> Made {
     sized(alloc, &[1, 2, 3, 4, 5, 6], 2, 3, There::Always)
 }
 
-// How many of six numbers a list has, how many lists there are, which are there, and the lists.
+// How many of six numbers a list has, how many lists there are, which are valid, and the lists.
 const ROWS: [(u32, usize, There, &[&str]); 3] = [
     (2, 3, There::Always, &["[1, 2]", "[3, 4]", "[5, 6]"]),
     (3, 2, There::All, &["[1, 2, 3]", "[4, 5, 6]"]),
@@ -44,8 +44,8 @@ fn there_may_be_no_elements(rt: HostRuntime) {
 
 const UNFIT: Option<ArrayError> = Some(ArrayError::BadShape);
 
-// How many elements there are, how many a row has, how many rows there are, and why such lists are not made, if they are
-// not.
+// How many elements there are, how many a row has, how many rows there are, and why such lists are refused, if they
+// are.
 const SIZES: [(usize, u32, usize, Option<ArrayError>); 9] = [
     (6, 3, 2, None),
     (7, 3, 2, UNFIT),

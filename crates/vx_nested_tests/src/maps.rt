@@ -17,7 +17,7 @@ fn values(alloc: Global) -> Made {
     texts(alloc, b"ab", There::Bits(0b01))
 }
 
-// Two structures of a key and a value, by these names.
+// Two structs of a key and a value, by these names.
 fn entries(alloc: Global, names: &[&str], there: There) -> Made {
     let types = two(alloc, keys(alloc), values(alloc));
     let columns = two(alloc, keys(alloc), values(alloc));
@@ -29,7 +29,7 @@ fn pairs(alloc: Global) -> Made {
     entries(alloc, &["key", "value"], There::Always)
 }
 
-// Three lists of such structures.
+// Three lists of such structs.
 fn viewed(alloc: Global, entries: Made, there: There) -> Made {
     let offsets = bytes(alloc, &[1, 0, 0]);
     views(alloc, entries, offsets, bytes(alloc, &[1, 2, 0]), there)
@@ -86,7 +86,7 @@ fn entries_are_named_and_never_null(rt: HostRuntime) {
     }
 }
 
-// Two structures of a key alone.
+// Two structs of a key alone.
 fn lone(alloc: Global) -> Made {
     let types = one(alloc, keys(alloc));
     structs(
@@ -99,7 +99,7 @@ fn lone(alloc: Global) -> Made {
     )
 }
 
-// Two structures of a value and a key.
+// Two structs of a value and a key.
 fn crossed(alloc: Global) -> Made {
     let types = two(alloc, values(alloc), keys(alloc));
     let columns = two(alloc, values(alloc), keys(alloc));

@@ -1,4 +1,4 @@
-//! Tests of structures.
+//! Tests of structs.
 
 use std::alloc::Global;
 use vx_arrays::ArrayError;
@@ -22,23 +22,23 @@ fn columns(alloc: Global) -> AllMade {
     two(alloc, numbers(alloc), letters(alloc))
 }
 
-// This many structures of a number and a text, by these columns.
+// This many structs of a number and a text, by these columns.
 fn pairs_of(alloc: Global, columns: AllMade, len: usize, there: There) -> Made {
     let types = two(alloc, numbers(alloc), letters(alloc));
     structs(alloc, &["a", "b"], types, columns, len, there)
 }
 
-// Three structures of a number and a text.
+// Three structs of a number and a text.
 fn pairs(alloc: Global, there: There) -> Made {
     pairs_of(alloc, columns(alloc), 3, there)
 }
 
-// This many structures without fields.
+// This many structs without fields.
 fn empty(alloc: Global, len: usize, there: There) -> Made {
     structs(alloc, &[], none(alloc), none(alloc), len, there)
 }
 
-// Structures of one field.
+// Structs of one field.
 fn boxed(alloc: Global, kind: Made, column: Made, len: usize) -> Made {
     structs(
         alloc,
@@ -80,7 +80,7 @@ fn structures_stand_in_one_another(rt: HostRuntime) {
 
 const UNFIT: Option<ArrayError> = Some(ArrayError::BadShape);
 
-// How many structures of three rows of columns there are, which are there, and why they are not made, if they are not.
+// How many structs of three rows of columns there are, which are valid, and why they are refused, if they are.
 const COUNTS: [(usize, There, Option<ArrayError>); 5] = [
     (3, There::Always, None),
     (2, There::Always, UNFIT),
@@ -115,7 +115,7 @@ fn three_flags(alloc: Global) -> Made {
     flags(alloc, 0b101, 3)
 }
 
-// Three structures of a flag and a text, by these columns.
+// Three structs of a flag and a text, by these columns.
 fn flagged(alloc: Global, columns: AllMade, there: There) -> Made {
     let types = two(alloc, three_flags(alloc), letters(alloc));
     structs(alloc, &["a", "b"], types, columns, 3, there)

@@ -35,7 +35,7 @@ fn tagged(alloc: Global, tags: &[u8], there: There) -> Made {
     united(alloc, tags, members(alloc))
 }
 
-// The tags of rows, whose bits say which are there, and the rows of numbers, texts and flags that they name.
+// The tags of rows, whose bits say which are valid, and the rows of numbers, texts and flags that they name.
 const ROWS: [(&[u8], There, &[&str]); 5] = [
     (
         &[0, 5, 255, 0],

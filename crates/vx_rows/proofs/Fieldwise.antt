@@ -1,4 +1,4 @@
--- Fields of structures that are borrowed, found by their names and gathered.
+-- Fields of structs that are borrowed, found by their names and gathered.
 use Rattle.std.proofs.Common.{ℕ, zero, suc, ◌≡◌, ◌<◌, ◌≤◌, ◌+◌, List, [], ◌∷◌, ◌++◌, Option, Some, None, Bool, true, false, Result, Ok, OnOk, refl, sym, ap, ◌∙◌, subst, length, drop, take, get_or, arith, add-one, bytes_eq, if◌then◌else◌}
 use Rattle.std.proofs.lemmas.List.{append-nil}
 use Rattle.std.proofs.lemmas.Option.{none-some}
@@ -101,7 +101,7 @@ not_null_value d (S.Tuple vs) = refl
 not_null_value d (S.Union tag v) = refl
 not_null_value d (S.Variant s) = refl
 
--- Of a structure as it is borrowed: a name for each type and for each value.
+-- Of a struct as it is borrowed: a name for each type and for each value.
 pub same_counts : (r : Raw) (ns : List (List ℕ)) (ds : List DType) (ws : List (Option ScalarValue)) → ns ≡ r.names → roses_of (typs ds) ≡ r.types → roses_of (all_seen ws) ≡ r.values → length r.names ≡ count r.types → FitBy r.values r.types
     → (length ns ≡ length ds) × (length ns ≡ length ws)
 same_counts r ns ds ws a b c e f =
@@ -114,7 +114,7 @@ same_counts r ns ds ws a b c e f =
     by_count (more v vs) end f = absurd f
     by_count (more v vs) (more t ts) f = ap (λ n. suc n) (by_count vs ts f.1)
 
--- The field that is found is one of the structure's.
+-- The field that is found is one of the struct's.
 pub found_in : (r : Raw) (name : List ℕ) (ns : List (List ℕ)) (ds : List DType) (ws : List (Option ScalarValue)) (o : Option (Typ × Value)) → ns ≡ r.names → roses_of (typs ds) ≡ r.types → roses_of (all_seen ws) ≡ r.values
     → raw_field name ns (roses_of (typs ds)) (roses_of (all_seen ws)) ≡ o → raw_field name r.names r.types r.values ≡ o
 found_in r name ns ds ws o a b c e = (λ i. raw_field name (sym a i) (sym b i) (sym c i)) ∙ e
@@ -289,7 +289,7 @@ module _ (names : List (List ℕ)) (types : List Typ) (values : List Value) (nam
   pub field_none : (i : ℕ) → length ns ≤ i → Searches name ns ds ws i → None ≡ not_null (raw_field name names (roses_of types) (roses_of values))
   field_none i h s = sym (ap (λ (f : Option (Typ × Value)). not_null f) (whole None (search_ends name ns ds ws i h s)))
 
--- Of a structure as it is borrowed there is a name for each type and for each value.
+-- Of a struct as it is borrowed there is a name for each type and for each value.
 pub borrowed_counts : (names : List (List ℕ)) (types : List Typ) (values : List Value) (ns : List (List ℕ)) (ds : List DType) (ws : List (Option ScalarValue)) → ns ≡ names → typs ds ≡ types → all_seen ws ≡ values
     → length names ≡ count (roses_of types) → FitBy (roses_of values) (roses_of types) → (length ns ≡ length ds) × (length ns ≡ length ws)
 borrowed_counts names types values ns ds ws a b e l f =

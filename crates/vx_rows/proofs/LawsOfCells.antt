@@ -35,7 +35,7 @@ same_spent r a b old new e h = subst (λ (n : ℕ). OnOk r (old ≡ n + new)) e 
 pub same_refused : (r : Result RowValue ArrayError) (a b budget : ℕ) → a ≡ b → IfErr r (λ e. RefusesCells e a budget) → IfErr r (λ e. RefusesCells e b budget)
 same_refused r a b budget e h = subst (λ (n : ℕ). IfErr r (λ x. RefusesCells x n budget)) e h
 
--- Of a row that was built so many cells were there.
+-- Where a row was built, the budget had its n cells.
 pub cells_fit : (r : Result RowValue ArrayError) (cells old new : ℕ) → OnOk r (old ≡ cells + new) → IfOk r (λ _. cells ≤ old)
 cells_fit (Ok row) cells old new h = omega (arith, h)
 cells_fit (Err e) cells old new h = tt

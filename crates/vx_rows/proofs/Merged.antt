@@ -1,4 +1,4 @@
--- Merges: what fits, and the fields of a merged structure one by one.
+-- Merges: what fits, and the fields of a merged struct one by one.
 use Rattle.std.proofs.Common.{ℕ, zero, suc, ◌≡◌, ◌<◌, ◌+◌, ◌||◌, List, [], ◌∷◌, ◌++◌, Option, Some, None, Bool, true, false, refl, sym, ap, ◌∙◌, subst, length, take, get_or, arith, add-one, append_assoc, bytes_eq, if◌then◌else◌}
 use Rattle.std.proofs.lemmas.Bool.{false≢true}
 use Rattle.std.proofs.lemmas.List.{append-nil}
@@ -136,7 +136,7 @@ raw_value_is None = refl
 raw_value_is (Some (d, node null vs)) = refl
 raw_value_is (Some (d, node m vs)) = refl
 
--- The fields of a raw structure that are not given, one by one.
+-- The fields of a raw struct that are not given, one by one.
 other_step : (n : List ℕ) (t r : Raw) (o p : Option (Typ × Value)) → raw_field n t.names t.types t.values ≡ o
     → (if is_named n (listed (given_at t r) t.names) then [] else kept n (raw_value p)) ≡ kept n (left_over (not_null o) (not_null p))
 other_step n t r None p e =
@@ -157,7 +157,7 @@ others_are t r (n ∷ ns) =
     (other_step n t r (raw_field n t.names t.types t.values) (raw_field n r.names r.types r.values) refl)
     ∙ ap (λ (xs : List Named). kept n (other_at t r n) ++ xs) (others_are t r ns)
 
--- All fields of two structures that are merged.
+-- All fields of two structs that are merged.
 abbrev pub all_fields : Raw → Raw → List Named
 all_fields t r = listed (given_at t r) t.names ++ listed (other_at t r) r.names
 

@@ -158,7 +158,7 @@ cells_push (x ∷ vs) v = omega (arith, cells_push vs v)
 pub cells_next : (os : List (Option ScalarValue)) (i : ℕ) (o : Option ScalarValue) → i < length os → o ≡ get_or os i o → values_cells (roses_of (all_seen (take (i + 1) os))) ≡ values_cells (roses_of (all_seen (take i os))) + value_cells (seen o)
 cells_next os i o h q = ap (λ (vs : List Value). values_cells (roses_of vs)) (sym (values_more os i o (all_seen (take i os)) (seen o) h q refl refl)) ∙ cells_push (all_seen (take i os)) (seen o)
 
--- So many are not fewer than those of the first.
+-- They are not fewer than those of the first.
 pub cells_before : (os : List (Option ScalarValue)) (i : ℕ) → values_cells (roses_of (all_seen (take i os))) ≤ values_cells (roses_of (all_seen os))
 cells_before [] zero = omega arith
 cells_before [] (suc i) = omega arith
@@ -170,12 +170,12 @@ cells_inside os i o h q = omega (arith, cells_next os i o h q, cells_before os (
 
 -- ---- the row of a typed child over a core's
 
--- The structure of a fallback that holds one.
+-- The struct of a fallback that holds one.
 same_structure : (o : Option Raw) → fallback_structure (fallback_of o) ≡ o
 same_structure None = refl
 same_structure (Some r) = refl
 
--- A fallback matters by its structure alone, where the typed value is not null.
+-- A fallback matters by its struct alone, where the typed value is not null.
 tuple_by : (d : Typ) (vs : Values) (fb : Option Value) → merge d (node tuple vs) fb ≡ merge d (node tuple vs) (fallback_of (fallback_structure fb))
 tuple_by (node (K.list m) (more e end)) vs fb = refl
 tuple_by (node (K.fixed_size_list s m) (more e end)) vs fb = refl

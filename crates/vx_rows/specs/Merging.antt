@@ -1,5 +1,5 @@
--- The merge of a typed value over a fallback, in the words of its code: structures that are borrowed, and the fields that are
--- gathered of them.
+-- The merge of a typed value over a fallback, in the words of its code: structs that are borrowed, and the fields
+-- that are gathered of them.
 use Rattle.std.specs.Prelude.{ℕ, ◌≡◌, List, [], ◌∷◌, ◌++◌, Option, Some, None, length}
 use Rattle.vx_trees.specs.Rose.{node, count, roses_of}
 use Rattle.vx_types.specs.Fits.{FitBy}
@@ -15,21 +15,21 @@ use Rattle.vx_rows.specs.declared.error.ArrayError.TheVariants.{OutOfMemory, Bad
 use Rattle.vx_rows.specs.declared.merging.Structure.{Structure}
 use Rattle.vx_rows.specs.declared.named_variants.NamedVariants.{NamedVariants}
 
--- A structure that is borrowed.
+-- A struct that is borrowed.
 abbrev pub raw_of : Structure → Raw
 raw_of s = record { names = s.fields.now.names; types = roses_of s.fields.now.types; values = roses_of s.values.now }
 
--- A structure has a name for each type, and its values fit its types.
+-- A struct has a name for each type, and its values fit its types.
 pub record IsStructured (r : Raw) : Type 0 where
   pub named : length r.names ≡ count r.types
   pub fits : FitBy r.values r.types
 
--- A fallback that holds a structure: a variant of it.
+-- A fallback that holds a struct: a variant of it.
 abbrev pub fallback_of : Option Raw → Option Value
 fallback_of None = None
 fallback_of (Some r) = Some (variant_of (node (structure r.names NonNullable) r.types) (node tuple r.values))
 
--- The value of a fallback, where one stands.
+-- The value of a fallback, if any.
 abbrev pub fallback_value : Option Typed → Option Value
 fallback_value None = None
 fallback_value (Some s) = Some s.value
@@ -46,22 +46,22 @@ pub record AreNamed (n : NamedVariants) (fs : List Named) : Type 0 where
   pub types : roses_of n.types ≡ types_of fs
   pub values : roses_of n.values ≡ values_of fs
 
--- A typed field, where there is one, over what a raw structure has under its name.
+-- A typed field, if any, over what a raw struct has under its name.
 abbrev pub merged_at : List ℕ → Raw → Option (Typ × Value) → Option Value
 merged_at name r None = None
 merged_at name r (Some f) = merged f.1 f.0 (structure_at name r)
 
--- What stands under a name of a structure over a raw one: none, where it has no such field, or that is null.
+-- What stands under a name of a struct over a raw one: none, where it has no such field, or that is null.
 abbrev pub given_at : Raw → Raw → List ℕ → Option Value
 given_at t r name = merged_at name r (raw_field name t.names t.types t.values)
 
--- A field of a raw structure, as a variant, where a typed one does not give its name.
+-- A field of a raw struct, as a variant, where a typed one does not give its name.
 abbrev pub left_over : Option (Typ × Value) → Option (Typ × Value) → Option Value
 left_over (Some f) o = None
 left_over None None = None
 left_over None (Some f) = Some (wrapped f.0 f.1)
 
--- What stands under a name of a raw structure that the typed one does not give.
+-- What stands under a name of a raw struct that the typed one does not give.
 abbrev pub other_at : Raw → Raw → List ℕ → Option Value
 other_at t r name = left_over (not_null (raw_field name t.names t.types t.values)) (not_null (raw_field name r.names r.types r.values))
 
@@ -70,7 +70,7 @@ abbrev pub listed : (List ℕ → Option Value) → List (List ℕ) → List Nam
 listed f [] = []
 listed f (n ∷ ns) = kept n (f n) ++ listed f ns
 
--- Two structures merged.
+-- Two structs merged.
 abbrev pub merged_structures : Raw → Raw → Value
 merged_structures t r = joined (merged_fields t.values t.names t.types r) r
 

@@ -14,7 +14,7 @@ IsVariantRow (node opaque vs) = Unit {0}
 IsVariantRow (node (variant d) vs) = Unit {0}
 IsVariantRow _ = ⊥
 
--- Whether a core's row hides a typed value of a type that stands over it: an opaque one hides a structure.
+-- Whether a core's row hides a typed value of a type that stands over it: an opaque one hides a struct.
 abbrev pub hides : Typ → Value → Bool
 hides d (node opaque vs) = is_structure d
 hides d _ = false

@@ -1,4 +1,4 @@
-//! The cells of rows of variants, which are spent where a row takes them.
+//! The cells of rows of variants.
 
 ghost use Rattle.std.specs.Prelude.{◌≡◌, ◌+◌, IfOk, IfErr, OnOk, option_copied};
 ghost use Rattle.vx_trees.specs.Rose.{roses_of};

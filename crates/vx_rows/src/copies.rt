@@ -1,4 +1,4 @@
-//! Copies that can want nothing but memory, refused as arrays are.
+//! Copies that fail by allocation failure alone, as an `ArrayError`.
 
 ghost use Rattle.std.specs.Prelude.{◌≡◌, IfOk, IsOkUnless};
 
@@ -6,7 +6,7 @@ use crate::error::ArrayError;
 use std::alloc::Global;
 use vx_types::{Blob, DType, Name, or_memory};
 
-/// A text of its own.
+/// An owned text.
 pub fn owned_text(alloc: Global, text: &str) -> Result<Name, ArrayError>
     ensures ok { IfOk result (λ name. name ≡ text.now) }
     ensures err { IsOkUnless result ArrayError.OutOfMemory }
@@ -14,7 +14,7 @@ pub fn owned_text(alloc: Global, text: &str) -> Result<Name, ArrayError>
     Ok(or_memory(Name::new(alloc, text))?)
 }
 
-/// Bytes of their own.
+/// Owned bytes.
 pub fn owned_bytes(alloc: Global, bytes: &[u8]) -> Result<Blob, ArrayError>
     ensures ok { IfOk result (λ blob. blob ≡ bytes.now) }
     ensures err { IsOkUnless result ArrayError.OutOfMemory }
@@ -22,7 +22,7 @@ pub fn owned_bytes(alloc: Global, bytes: &[u8]) -> Result<Blob, ArrayError>
     Ok(or_memory(Blob::copy_from(alloc, bytes))?)
 }
 
-/// A type once more.
+/// A copy of a type.
 pub fn copied_type(alloc: Global, dtype: &DType) -> Result<DType, ArrayError>
     ensures ok { IfOk result (λ copy. copy ≡ dtype.now) }
     ensures err { IsOkUnless result ArrayError.OutOfMemory }

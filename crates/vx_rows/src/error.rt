@@ -1,4 +1,4 @@
-//! Why calls on arrays, and on rows of them, are refused.
+//! Refusals of calls on arrays and their rows.
 
 ghost use Rattle.std.specs.Prelude.{◌≡◌};
 ghost use Rattle.vx_rows.specs.declared.error.ArrayError.TheVariants.{OutOfMemory};
@@ -10,23 +10,22 @@ use vx_buffer::BufferError;
 /// Why a call on an array, or on a row of one, was refused.
 #[derive(Clone, Copy, Debug, PartialEq, Eq, Error)]
 pub enum ArrayError {
-    /// Memory was wanted and not to be had.
+    /// An allocation failed.
     #[error("out of memory")]
     OutOfMemory,
-    /// The parts do not fit the type, the rows or one another.
+    /// The parts do not fit the type, the length or one another.
     #[error("the parts fit no sound array")]
     BadShape,
-    /// A value in a buffer or a child names nothing that is there, or bytes are no text where one is to be.
+    /// A value in a buffer or a child refers to nothing that exists, or the bytes of a Utf8 row are not UTF-8.
     #[error("the content is broken")]
     BadContent,
-    /// A foreign node stands where it says where rows are: within a validity, codes, offsets, sizes or tags, or as the
-    /// entries of maps.
+    /// A foreign node stands in a control child (validity, codes, offsets, sizes or tags), or as the entries of maps.
     #[error("a foreign node says where rows are, or is the entries of a map")]
     ForeignControl,
-    /// A row takes more cells than there are to spend.
+    /// A row takes more cells than the budget.
     #[error("the row takes too many cells")]
     ValueTooLarge,
-    /// What is merged is null, and the type that it is to be of has no null.
+    /// The merged value is null, and the requested type is not nullable.
     #[error("a merge that is null is of a type without nulls")]
     BadCast,
 }

@@ -1,5 +1,5 @@
-//! Rows of arrays as values, without the arrays: numbers and views out of bytes, values with their equality and the cells
-//! that they take, scalars as rows and back, and the merge of a typed value over a variant.
+//! Rows of arrays as values, without the arrays: numbers and views read from bytes, values with their equality and
+//! cells, scalars as rows and back, and the merge of a typed value over a variant.
 //!
 //! Contracts see a [`RowValue`] as the plain value of `vx_types`, as they see a scalar's.
 #![tactic(auto)]

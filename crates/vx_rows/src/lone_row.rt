@@ -1,4 +1,4 @@
-//! Rows without rows below them, before they are built, and the cells that they take.
+//! Rows without nested rows, before they are built, and the cells that they take.
 
 ghost use Rattle.std.specs.Prelude.{suc, ◌≡◌, ◌+◌, IfOk, IfErr, OnOk, IsOkUnless};
 ghost use Rattle.vx_types.specs.Value.{lone, mark_cells, value_cells};
@@ -13,12 +13,12 @@ use std::alloc::Global;
 use vx_scalars::DecimalValue;
 use vx_types::PValue;
 
-/// A row without rows below it. Texts and bytes are borrowed.
+/// A row without nested rows. Texts and bytes are borrowed.
 #[derive(Clone, Copy)]
 pub enum LoneRow<'a> {
-    /// The row is not there.
+    /// The row is null.
     Null,
-    /// Nothing is known of the row.
+    /// The row is opaque.
     Opaque,
     /// A flag.
     Bool(bool),
@@ -32,7 +32,7 @@ pub enum LoneRow<'a> {
     Binary(&'a [u8]),
 }
 
-/// Spends the cells of a value with so many bytes in it: one, and one for each byte.
+/// Spends the cells of a value of n bytes: one, and one for each byte.
 pub fn spend(bytes: usize, budget: &mut u64) -> Result<(), ArrayError>
     ensures spent { OnOk result (budget.old ≡ suc bytes + budget.new) }
     ensures err { IfErr result (λ e. RefusesCells e (suc bytes) budget.old) }
@@ -44,7 +44,7 @@ pub fn spend(bytes: usize, budget: &mut u64) -> Result<(), ArrayError>
     Ok(())
 }
 
-// How many bytes stand in a row.
+// How many bytes a row has.
 fn bytes_in(row: &LoneRow<'_>) -> usize
     ensures { result ≡ mark_cells (lone_mark row.now) }
 {
@@ -59,7 +59,7 @@ fn bytes_in(row: &LoneRow<'_>) -> usize
     }
 }
 
-// A row of its own.
+// The row's value, owned.
 fn owned(alloc: Global, row: LoneRow<'_>) -> Result<RowValue, ArrayError>
     ensures ok { IfOk result (λ value. plain_value value ≡ lone (lone_mark row.entry)) }
     ensures err { IsOkUnless result ArrayError.OutOfMemory }
@@ -75,7 +75,7 @@ fn owned(alloc: Global, row: LoneRow<'_>) -> Result<RowValue, ArrayError>
     }
 }
 
-/// The value of a row without rows below it, if there are cells to spend for it.
+/// The value of a row without nested rows, if the budget has cells for it.
 pub fn lone_value(alloc: Global, row: LoneRow<'_>, budget: &mut u64) -> Result<RowValue, ArrayError>
     ensures row { IfOk result (λ value. plain_value value ≡ lone (lone_mark row.entry)) }
     ensures spent { OnOk result (budget.old ≡ value_cells (lone (lone_mark row.entry)) + budget.new) }

@@ -19,14 +19,14 @@ use std::alloc::Global;
 use vx_scalars::{Scalar, ScalarValue, Values, VariantRef};
 use vx_types::{DType, Name, Nullability, StructFields, TypeRef, or_memory};
 
-// A structure that is not null: its fields, and their values in the same order.
+// A struct that is not null: its fields, and their values in the same order.
 #[derive(Clone, Copy)]
 pub(crate) struct Structure<'a> {
     fields: &'a StructFields,
     values: &'a Values,
 }
 
-// The structure that a value of a type is.
+// The struct that a value of a type is.
 fn structure_of<'a>(dtype: &'a DType, value: &'a ScalarValue) -> Option<Structure<'a>>
     requires { Fits (value_of value.now) (typ dtype.now) }
     ensures found { option_map raw_of result ≡ structure_in (typ dtype.now) (value_of value.now) }
@@ -43,7 +43,7 @@ fn structure_of<'a>(dtype: &'a DType, value: &'a ScalarValue) -> Option<Structur
     }
 }
 
-// The structure that a scalar is.
+// The struct that a scalar is.
 pub(crate) fn structure_within(scalar: &Scalar) -> Option<Structure<'_>>
     ensures found { option_map raw_of result ≡ structure_in scalar.now.dtype scalar.now.value }
     ensures sound { IfSome result (λ s. IsStructured (raw_of s)) }
@@ -54,8 +54,8 @@ pub(crate) fn structure_within(scalar: &Scalar) -> Option<Structure<'_>>
     }
 }
 
-// The structure that a value of a type is, itself or inside a variant. The type decides, not the value: an extension over
-// Variant is no variant here.
+// The struct that a value of a type is, itself or inside a variant. The type decides, not the value: an extension
+// over Variant is no variant here.
 fn raw_structure<'a>(dtype: &'a DType, value: &'a ScalarValue) -> Option<Structure<'a>>
     requires { Fits (value_of value.now) (typ dtype.now) }
     ensures found { option_map raw_of result ≡ raw_structure (typ dtype.now) (value_of value.now) }
@@ -67,7 +67,7 @@ fn raw_structure<'a>(dtype: &'a DType, value: &'a ScalarValue) -> Option<Structu
     }
 }
 
-// The first field of a name, where there is one that is not null: its type and its value.
+// The type and the value of the first field of a name, if it exists and is not null.
 fn field_in<'a>(structure: Structure<'a>, name: &Name) -> Option<(&'a DType, &'a ScalarValue)>
     requires { IsStructured (raw_of structure) }
     ensures found { let r = raw_of structure.entry in
@@ -89,7 +89,7 @@ fn field_in<'a>(structure: Structure<'a>, name: &Name) -> Option<(&'a DType, &'a
     None
 }
 
-// The structure in the first field of a name.
+// The struct in the first field of a name.
 fn structure_at<'a>(structure: Structure<'a>, name: &Name) -> Option<Structure<'a>>
     requires { IsStructured (raw_of structure) }
     ensures found { option_map raw_of result ≡ structure_at name.now (raw_of structure.entry) }
@@ -123,7 +123,7 @@ pub(crate) fn as_variant(alloc: Global, scalar: Scalar) -> Result<ScalarValue, A
     }
 }
 
-// A value once more, which may be null.
+// A copy of a value that may be null.
 fn copied_value(
     alloc: Global,
     value: Option<&ScalarValue>,
@@ -140,7 +140,7 @@ fn copied_value(
     }
 }
 
-// A scalar once more.
+// A copy of a scalar.
 pub(crate) fn copied_scalar(alloc: Global, scalar: &Scalar) -> Result<Scalar, ArrayError>
     ensures ok { IfOk result (λ copy. copy ≡ scalar.now) }
     ensures err { IsOkUnless result ArrayError.OutOfMemory }
@@ -151,7 +151,7 @@ pub(crate) fn copied_scalar(alloc: Global, scalar: &Scalar) -> Result<Scalar, Ar
     }
 }
 
-// The scalar of a value as one of type Variant: of a variant that is not null its own, of any other the value itself.
+// The scalar that a value holds as a variant: its own for a variant that is not null, else the value itself.
 fn wrapped(alloc: Global, dtype: &DType, value: Option<&ScalarValue>) -> Result<Scalar, ArrayError>
     requires { Fits (seen (option_copied value)) (typ dtype.now) }
     ensures ok { IfOk result (λ s. wrapped (typ dtype.now) (seen (option_copied value.entry)) ≡ variant_of s.dtype s.value) }
@@ -208,8 +208,8 @@ fn list_of_variants(alloc: Global, element: &DType, values: &Values) -> Result<S
     Ok(scalar_of(dtype, Some(ScalarValue::Tuple(all))))
 }
 
-// A value that is not null over a raw structure, as the scalar of a variant: of a structure the two merged, of any other
-// the value itself.
+// A value that is not null over a raw struct, as the scalar of a variant: a struct is merged with it, any other value
+// is wrapped.
 #[cycle(merging)]
 fn merged(
     alloc: Global,
@@ -228,8 +228,8 @@ fn merged(
     }
 }
 
-// The fields of a structure over those of a raw one: its own, merged with what the raw one has under their names, and then
-// those of the raw one that it does not give.
+// A struct merged over a raw one: first its own fields, each merged with the raw field of the same name, then the raw
+// fields whose names it does not give.
 #[cycle(merging)]
 fn joined(alloc: Global, typed: Structure<'_>, raw: Structure<'_>) -> Result<Scalar, ArrayError>
     requires typed { IsStructured (raw_of typed) }
@@ -243,7 +243,7 @@ fn joined(alloc: Global, typed: Structure<'_>, raw: Structure<'_>) -> Result<Sca
     Ok(fields.into_scalar())
 }
 
-// Puts the fields of a structure that are not null after others, each merged with what a raw structure has under its name.
+// Appends the typed fields that are not null, each merged with the raw field of the same name.
 #[cycle(merging)]
 fn push_given(
     alloc: Global,
@@ -270,7 +270,7 @@ fn push_given(
     Ok(())
 }
 
-// Puts the field of a name of a structure, where there is one that is not null, after others.
+// Appends the field of a name, if it exists and is not null.
 fn push_field(
     alloc: Global,
     structure: Structure<'_>,
@@ -291,7 +291,7 @@ fn push_field(
     }
 }
 
-// Puts those fields of a raw structure after others that are not null, and whose names a structure does not give.
+// Appends the raw fields that are not null and whose names the typed struct does not give.
 fn push_others(
     alloc: Global,
     typed: Structure<'_>,
@@ -313,7 +313,7 @@ fn push_others(
     Ok(())
 }
 
-// A typed value that is not null over the structure of a fallback, as the scalar of a variant.
+// A typed value that is not null over the struct of a fallback, as the scalar of a variant.
 pub(crate) fn merged_over(
     alloc: Global,
     dtype: &DType,
@@ -334,7 +334,7 @@ pub(crate) fn merged_over(
     }
 }
 
-// The structure that a variant holds, where there is one.
+// The struct that a variant holds, if any.
 fn fallback_structure(value: Option<&ScalarValue>) -> Option<Structure<'_>>
     ensures found { option_map raw_of result ≡ raw_structure variants (seen (option_copied value.entry)) }
     ensures sound { IfSome result (λ s. IsStructured (raw_of s)) }
@@ -359,12 +359,14 @@ fn cast(alloc: Global, value: Option<ScalarValue>, dtype: &DType) -> Result<Scal
     Ok(scalar_of(dtype, value))
 }
 
-/// The variant of a typed scalar over a fallback, which is a variant too, of the type `dtype`, which is one of variants.
+/// Merges a typed scalar over an optional fallback of type Variant. The result has the type `dtype`, which is Variant
+/// too. The rules are those of `vortex-array`, but for null list elements, which this project wraps.
 ///
-/// A null leaves the fallback, or null where there is none. A list is a variant of a list of variants, each of its elements
-/// wrapped, but for a variant that is not null. A variant is itself. A structure over a fallback that holds one is a variant
-/// of the two merged: of the typed fields that are not null, in their order, and then of those of the fallback's whose names
-/// these do not give; a field that is a structure in both is merged in turn. Any other value is a variant of itself.
+/// A null leaves the fallback, or null where there is none. A list is a variant of a list of variants, each of its
+/// elements wrapped, but for a variant that is not null. A variant is itself. A struct over a fallback that holds one
+/// is a variant of the two merged: of the typed fields that are not null, in their order, and then of those of the
+/// fallback's whose names these do not give; a field that is a struct in both is merged in turn. Any other value is a
+/// variant of itself.
 ///
 /// `BadCast` exactly where what is merged is null, and `dtype` has no null.
 pub fn merge_typed_scalar_as_variant(

@@ -1,4 +1,4 @@
-//! The fields of a structure of variants, while they are gathered.
+//! A struct of variants while its fields are gathered.
 
 ghost use Rattle.std.specs.Prelude.{◌≡◌, ◌∷◌, ◌++◌, [], List, IfOk, OnOk, IsOkUnless};
 ghost use Rattle.vx_trees.specs.Rose.{node};
@@ -15,7 +15,7 @@ use std::alloc::Global;
 use vx_scalars::{Scalar, ScalarValue, Values};
 use vx_types::{DType, DTypes, Name, Names, Nullability, StructFields, or_memory};
 
-// Names, as many types of variants, and as many variants, in one order.
+// Names, types and values of the same number, in one order.
 #[derive(Drop)]
 pub(crate) struct NamedVariants {
     names: Names,
@@ -56,7 +56,7 @@ impl NamedVariants {
         }
     }
 
-    // The structure of these fields.
+    // The struct of these fields.
     pub(crate) fn into_scalar(self) -> Scalar
         requires { (fs : List Named) × AreNamed self fs × Fits (node tuple (values_of fs)) (node (structure (names_of fs) NonNullable) (types_of fs)) }
         ensures { (fs : List Named) → AreNamed self fs → result ≡ record { dtype = node (structure (names_of fs) NonNullable) (types_of fs); value = node tuple (values_of fs) } }
@@ -71,7 +71,7 @@ impl NamedVariants {
     }
 }
 
-// A name once more.
+// A copy of a name.
 fn copied_name(alloc: Global, name: &Name) -> Result<Name, ArrayError>
     ensures ok { IfOk result (λ copy. copy ≡ name.now) }
     ensures err { IsOkUnless result ArrayError.OutOfMemory }

@@ -12,7 +12,7 @@ use vx_buffer::BufferHandle;
 use vx_scalars::DecimalValue;
 use vx_types::{DecimalType, PType, PValue};
 
-/// Whether as many elements of a width, and nothing else, fill a buffer that is aligned so.
+/// Whether a buffer has exactly the bytes of `count` elements of a width, and at least this alignment.
 pub fn is_filled(buffer: &BufferHandle, len: usize, width: usize, alignment: usize) -> bool
     ensures { IsTrue result ↔ ((length buffer.now.bytes ≡ width * len) × (alignment ≤ 2 ^ buffer.now.exponent)) }
 {
@@ -23,7 +23,7 @@ pub fn is_filled(buffer: &BufferHandle, len: usize, width: usize, alignment: usi
     }
 }
 
-/// The number of this kind that the bytes begin with, its lowest byte first.
+/// The number of this kind at the start of the bytes, little-endian.
 pub fn number_at(kind: PType, bytes: &[u8]) -> PValue
     requires { width_of kind ≤ length bytes.now }
     ensures { result ≡ number_at kind bytes.now }
@@ -44,7 +44,7 @@ pub fn number_at(kind: PType, bytes: &[u8]) -> PValue
     }
 }
 
-/// A number as a natural one; None where it is below 0 or a float.
+/// A number as a natural number; None where it is negative or a float.
 pub fn natural(number: PValue) -> Option<u64>
     ensures { result ≡ natural_number number }
 {
@@ -67,7 +67,7 @@ fn natural_int(n: i64) -> Option<u64>
     if n < 0 { None } else { Some(n as u64) }
 }
 
-/// The decimal of this width that the bytes begin with, its lowest byte first.
+/// The decimal of this width at the start of the bytes, little-endian.
 pub fn decimal_at(width: DecimalType, bytes: &[u8]) -> DecimalValue
     requires { decimal_width_of width ≤ length bytes.now }
     ensures { decimal_of result ≡ decimal_value width bytes.now }

@@ -12,9 +12,9 @@ use vx_types::{Blob, Name, PValue};
 #[cycle(row)]
 #[derive(Debug)]
 pub enum RowValue {
-    /// The row is not there.
+    /// The row is null.
     Null,
-    /// Nothing is known of the row.
+    /// The row is opaque.
     Opaque,
     /// A flag.
     Bool(bool),
@@ -26,7 +26,7 @@ pub enum RowValue {
     Utf8(Name),
     /// Bytes.
     Binary(Blob),
-    /// A row of lists or of structures: the rows of its elements, or of its fields.
+    /// A row of lists or of structs: the rows of its elements, or of its fields.
     Tuple(RowValues),
     /// A row of unions: its tag, and the row of the member that this names.
     Union(u8, RowRef),
@@ -34,7 +34,7 @@ pub enum RowValue {
     Variant(Scalar),
 }
 
-// A row's value falls by a call of this, wherever one falls, and not part by part.
+// Drops a row's value by one call: where values are dropped implicitly, proofs then do not go through their parts.
 impl Drop for RowValue {
     #[cycle(dropping)]
     fn drop(self) {

@@ -1,4 +1,4 @@
-//! Rows' values as scalars' and back, and rows of variants over which a typed child stands.
+//! Rows' values as scalars' and back, and rows of variants under a typed child.
 
 ghost use Rattle.std.specs.Prelude.{◌≡◌, Some, IfOk, IfSome, IsOkUnless, false, option_copied, option_map};
 ghost use Rattle.vx_trees.specs.Rose.{roses_of};
@@ -22,7 +22,7 @@ use std::alloc::Global;
 use vx_scalars::{Scalar, ScalarValue, ValueRef, Values};
 use vx_types::DType;
 
-// Whether something opaque stands in a row.
+// Whether a row holds something opaque.
 #[cycle(opaque)]
 #[tactic(auto, using(crate::proofs::SameRows::same_rows, crate::proofs::Scalared::opaque_rows))]
 pub(crate) fn has_opaque(row: &RowValue) -> bool
@@ -37,7 +37,7 @@ pub(crate) fn has_opaque(row: &RowValue) -> bool
     }
 }
 
-// Whether something opaque stands in one of these rows.
+// Whether one of these rows holds something opaque.
 #[cycle(opaque)]
 #[tactic(auto, using(crate::proofs::SameRows::same_rows, crate::proofs::Scalared::opaque_rows))]
 fn have_opaque(rows: &[RowValue]) -> bool
@@ -51,7 +51,7 @@ fn have_opaque(rows: &[RowValue]) -> bool
     false
 }
 
-// Nothing opaque stands in a scalar.
+// A scalar holds nothing opaque.
 #[tactic(auto, using(crate::proofs::Merged::plains))]
 fn is_never_opaque(scalar: &Scalar) -> bool
     ensures none { result ≡ false }
@@ -188,8 +188,8 @@ fn rows_of_values(alloc: Global, values: &[Option<ScalarValue>]) -> Result<RowVa
     Ok(rows)
 }
 
-// A row of a type over a core's row: where it is null that of the core, where something in it is opaque an opaque one, and
-// else the variant of the two.
+// A typed row over a core's: the core's where it is null, opaque where it holds something opaque, and else the two
+// merged.
 pub fn row_over(
     alloc: Global,
     dtype: &DType,
@@ -217,7 +217,7 @@ pub fn row_over(
     }
 }
 
-// The row that stands where one of a type is laid over a core's; none where it is null, since there the core's stands.
+// A typed row over a core's; None where it is null, which leaves the core's.
 #[tactic(auto, using(crate::proofs::Scalared::rows_over))]
 fn laid_over(
     alloc: Global,
@@ -243,7 +243,7 @@ fn laid_over(
     }
 }
 
-// A value that is not null over a core's row. A structure over an opaque one is opaque.
+// A value that is not null over a core's row. A struct over an opaque row is opaque.
 #[tactic(auto, using(crate::proofs::Scalared::values_over))]
 fn value_over(
     alloc: Global,
@@ -263,7 +263,7 @@ fn value_over(
     Ok(RowValue::Variant(scalar))
 }
 
-// The structure that a core's row holds, where there is one.
+// The struct that a core's row holds, if any.
 fn core_structure(core: &RowValue) -> Option<Structure<'_>>
     ensures found { option_map raw_of result ≡ fallback_structure (Some (plain_value core.now)) }
     ensures sound { IfSome result (λ s. IsStructured (raw_of s)) }
@@ -274,7 +274,7 @@ fn core_structure(core: &RowValue) -> Option<Structure<'_>>
     }
 }
 
-// Whether a core's row hides a typed value: whether it is opaque, and the value a structure.
+// Whether a core's row hides a typed value: whether it is opaque, and the value a struct.
 fn is_hidden(dtype: &DType, core: &RowValue) -> bool
     ensures { result ≡ hides (typ dtype.now) (plain_value core.now) }
 {

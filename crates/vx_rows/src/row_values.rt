@@ -38,7 +38,7 @@ impl Model for RowValues {
 }
 
 impl RowValues {
-    /// No value; more are stored by this allocator.
+    /// The empty list. It takes no memory.
     pub fn new(alloc: Global) -> RowValues
         ensures { result ≡ [] }
     {
@@ -70,7 +70,7 @@ impl RowValues {
         self.items.as_slice()
     }
 
-    /// One more value at the end. Where there is no memory for it, the list stays as it was, and the value is dropped.
+    /// Appends a value. On allocation failure the list stays as it was, and the value is dropped.
     pub fn push(&mut self, value: RowValue) -> Result<(), ArrayError>
         ensures ok { OnOk result (self.new ≡ self.old ++ plain_value value ∷ []) }
         ensures unchanged { OnErr result (self.new ≡ self.old) }

@@ -1,4 +1,4 @@
-//! Equality of scalars, with a clause that says so plainly.
+//! Equality of scalars, with a clause that states it on plain values.
 
 ghost use Rattle.std.specs.Prelude.{◌≡◌, ◌↔◌, IsTrue, option_copied};
 ghost use Rattle.vx_scalars.specs.Seen.{all_seen, seen, value_of};

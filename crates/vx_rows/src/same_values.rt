@@ -1,4 +1,4 @@
-//! Equality of rows' values, with a clause that says so plainly.
+//! Equality of rows' values, with a clause that states it on plain trees.
 
 ghost use Rattle.std.specs.Prelude.{◌≡◌, ◌↔◌, IsTrue};
 ghost use Rattle.vx_rows.specs.Plain.{plain_value, plain_values};

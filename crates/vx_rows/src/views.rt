@@ -1,4 +1,4 @@
-//! Views of 16 bytes: short bytes stand in the view itself, and of long ones it names the place in a buffer.
+//! Views of 16 bytes: short bytes are inline in the view, and a long one refers to a range of a buffer.
 
 ghost use Rattle.std.specs.Prelude.{◌≡◌, ◌≤◌, ◌<◌, ◌+◌, ◌^◌, length, take, drop, option_map};
 ghost use Rattle.std.specs.Int.{w32, from_le_bytes};
@@ -7,7 +7,7 @@ ghost use Rattle.vx_array_tree.specs.Encodings.VarBinViews.{found, long_view, vi
 use bytes::Buf;
 use vx_buffer::BufferHandle;
 
-// The bytes that a view tells, where it tells some.
+// The bytes that a view gives, if it is right.
 pub fn viewed<'a>(buffers: &'a [BufferHandle], view: &'a [u8]) -> Option<&'a [u8]>
     requires { length view.now ≡ 16 }
     ensures { option_map (λ b. b.now) result ≡ viewed buffers.now view.now }
@@ -19,7 +19,7 @@ pub fn viewed<'a>(buffers: &'a [BufferHandle], view: &'a [u8]) -> Option<&'a [u8
     long_view(buffers, size, view)
 }
 
-// The bytes that a view of more than 12 bytes names, where they are there and begin as it says.
+// The bytes to which a view of more than 12 bytes refers, if they exist and begin with its prefix.
 fn long_view<'a>(buffers: &'a [BufferHandle], size: usize, view: &[u8]) -> Option<&'a [u8]>
     requires whole { length view.now ≡ 16 }
     requires long { 12 < size }
@@ -34,7 +34,7 @@ fn long_view<'a>(buffers: &'a [BufferHandle], size: usize, view: &[u8]) -> Optio
     }
 }
 
-// The bytes of this size at an offset, where they are there and begin so.
+// The bytes of this size at an offset, if they exist and begin with the prefix.
 fn found<'a>(size: usize, prefix: &[u8], offset: usize, bytes: &'a [u8]) -> Option<&'a [u8]>
     requires long { 12 < size }
     requires small { size < 2 ^ 32 }

@@ -9,7 +9,7 @@ use vx_nested_parts::parts::{
 use vx_nested_parts::rows::{begins_with, has_rows, has_slots, takes};
 use vx_types::PType;
 
-// The numbers 1 and 2, of which the bits say which are there.
+// The numbers 1 and 2, of which the bits say which are valid.
 fn counts(alloc: Global, there: There) -> Made {
     numbers(alloc, PType::I32, &[1, 0, 0, 0, 2, 0, 0, 0], there)
 }
@@ -34,7 +34,7 @@ fn is_hidden(alloc: Global, array: &Array, index: usize) -> bool {
     }
 }
 
-// Whether a row's value is opaque, and whether it is there as `there` says.
+// Whether a row's value is opaque, and whether it is valid as `there` says.
 fn is_opaque(alloc: Global, array: &Array, index: usize, there: Option<bool>) -> bool {
     if index >= array.len() {
         return false;
@@ -42,7 +42,7 @@ fn is_opaque(alloc: Global, array: &Array, index: usize, there: Option<bool>) ->
     is_hidden(alloc, array, index) && array.is_valid(index) == there
 }
 
-// Whether the first row of an array has a text, and the second is opaque, and not known to be there.
+// Whether the first row of an array has a text, and the second is opaque, and of unknown validity.
 fn begins_known(alloc: Global, array: Made, text: &str) -> bool {
     match array {
         Ok(array) => {
@@ -123,13 +123,13 @@ fn a_null_leaves_the_cores_row(rt: HostRuntime) {
     assert!(rt; has_rows(alloc, variants, &["v(a)", "v(b)"]));
 }
 
-// Two structures of a number.
+// Two structs of a number.
 fn pairs(alloc: Global, column: Made) -> Made {
     let types = one(alloc, counts(alloc, There::Always));
     structs(alloc, &["a"], types, one(alloc, column), 2, There::Always)
 }
 
-// Two structures of variants of which nothing is known.
+// Two structs of opaque variants.
 fn unknown_pairs(alloc: Global) -> Made {
     let types = one(alloc, unknown_variants(alloc, 2));
     structs(
@@ -142,8 +142,8 @@ fn unknown_pairs(alloc: Global) -> Made {
     )
 }
 
-// A structure may have more fields in an opaque core, and an opaque part hides what is merged. The rows are there: the typed
-// ones are.
+// A struct may have more fields in an opaque core, and an opaque part hides what is merged. The rows are valid: the
+// typed ones are.
 #[test]
 fn what_is_opaque_hides_the_row(rt: HostRuntime) {
     let alloc = rt.alloc();
@@ -164,7 +164,7 @@ fn what_is_opaque_hides_the_row(rt: HostRuntime) {
     assert!(rt; has_rows(alloc, over, &["v([1])", "v([2])"]));
 }
 
-// Two variants of a structure of a number.
+// Two variants of a struct of a number.
 fn held(alloc: Global) -> Made {
     let pairs = pairs(alloc, counts(alloc, There::Always));
     shredded(alloc, letters(alloc), Some(pairs))
@@ -175,13 +175,13 @@ fn extended(alloc: Global) -> Made {
     extensions(alloc, unknown_variants(alloc, 0), held(alloc))
 }
 
-// Two structures whose field `s` is this column, of the type of the first array.
+// Two structs whose field `s` is this column, of the type of the first array.
 fn named(alloc: Global, kind: Made, column: Made) -> Made {
     let types = one(alloc, kind);
     structs(alloc, &["s"], types, one(alloc, column), 2, There::Always)
 }
 
-// Structures of a structure of a number over variants of these structures.
+// Structs of a struct of a number over variants of these structs.
 fn over_structures(alloc: Global, structures: Made) -> Made {
     let core = shredded(alloc, letters(alloc), Some(structures));
     let kind = pairs(alloc, counts(alloc, There::Always));
@@ -189,8 +189,8 @@ fn over_structures(alloc: Global, structures: Made) -> Made {
     shredded(alloc, core, Some(named(alloc, kind, column)))
 }
 
-// A field of the core's row is merged where its type is Variant. An extension over Variant is no variant, so the typed
-// structure stands alone.
+// A field of the core's row is merged where its type is Variant. An extension over Variant is no variant, so the
+// typed struct stands alone.
 #[test]
 fn a_field_of_the_core_is_merged_by_its_type(rt: HostRuntime) {
     let alloc = rt.alloc();
@@ -244,7 +244,7 @@ fn a_row_takes_the_greatest_of_three(rt: HostRuntime) {
     );
 }
 
-// One structure of an opaque variant and a number.
+// One struct of an opaque variant and a number.
 fn unknown_one(alloc: Global) -> Made {
     let types = and(one(alloc, unknown_variants(alloc, 1)), bytes(alloc, &[]));
     structs(
@@ -257,7 +257,7 @@ fn unknown_one(alloc: Global) -> Made {
     )
 }
 
-// Why variants are not made, if they are not.
+// Why variants are refused, if they are.
 fn refusal(alloc: Global, core: Made, over: Option<Made>) -> Option<ArrayError> {
     shredded(alloc, core, over).err()
 }

@@ -132,7 +132,7 @@ fn a_structure_is_merged_with_the_fallback(rt: HostRuntime) {
     assert!(rt; is_text(alloc, scalar, "v({b: v(true), c: v(7w)})"));
 }
 
-// Fallbacks that hold no structure: the typed structure is itself.
+// Fallbacks that hold no struct: the typed struct is itself.
 #[test]
 fn a_structure_over_none_is_itself(rt: HostRuntime) {
     let alloc = rt.alloc();
@@ -216,7 +216,7 @@ fn the_elements_of_lists_are_wrapped(rt: HostRuntime) {
     assert!(rt; is_text(alloc, alone(alloc, lists), "v([v([1, 2])])"));
 }
 
-// A structure that has another under the name s, beside a number.
+// A struct that has another under the name s, beside a number.
 fn within(alloc: Global, inner: Made, number: i32) -> Made {
     structure(with(
         alloc,
@@ -239,7 +239,7 @@ fn structures_in_structures_are_merged_in_turn(rt: HostRuntime) {
     assert!(rt; is_text(alloc, over(alloc, inner, fallback), text));
 }
 
-// Where one of the two is no structure, or null, the typed one stands, and where that is null the raw one.
+// Where one of the two is no struct, or null, the typed one stands, and where that is null the raw one.
 #[test]
 fn structures_over_others_are_themselves(rt: HostRuntime) {
     let alloc = rt.alloc();
@@ -260,8 +260,8 @@ fn structures_over_others_are_themselves(rt: HostRuntime) {
     assert!(rt; is_text(alloc, over(alloc, inner, fallback), "v({s: v(4), n: v(1)})"));
 }
 
-// The fallback's field is looked into by its type: an extension over Variant is no variant, so the typed structure stands
-// alone, and a field that is left over is wrapped once more.
+// The fallback's field is looked into by its type: an extension over Variant is no variant, so the typed struct
+// stands alone, and a field that is left over is wrapped once more.
 #[test]
 fn an_extension_over_variant_is_no_variant(rt: HostRuntime) {
     let alloc = rt.alloc();
@@ -288,13 +288,13 @@ fn repeated(alloc: Global, first: Made, second: Made, third: Made) -> Made {
     structure(with(alloc, with(alloc, one, "a", second), "b", third))
 }
 
-// A variant of a structure without fields.
+// A variant of a struct without fields.
 fn empty(alloc: Global) -> Made {
     variant(alloc, structure(none(alloc)))
 }
 
-// A name that stands twice is written twice, each time with the first field's value; where that is null it is left to the
-// raw structure.
+// A name that stands twice is written twice, each time with the first field's value; where that is null it is left to
+// the raw struct.
 #[test]
 fn a_name_reads_its_first_field(rt: HostRuntime) {
     let alloc = rt.alloc();

@@ -155,7 +155,7 @@ fn tuple(values: Values, there: bool) -> Option<ScalarValue> {
     }
 }
 
-// The structure of parts, or the null of its type.
+// The struct of parts, or the null of its type.
 fn structure_of(parts: Parts, there: bool) -> Made {
     let fields = StructFields::try_new(parts.names, parts.types);
     let value = tuple(parts.values, there);
@@ -168,7 +168,7 @@ fn structure_of(parts: Parts, there: bool) -> Made {
     }
 }
 
-/// A structure of these fields.
+/// A struct of these fields.
 pub(crate) fn structure(fields: Fields) -> Made {
     match fields {
         Ok(parts) => structure_of(parts, true),
@@ -176,7 +176,7 @@ pub(crate) fn structure(fields: Fields) -> Made {
     }
 }
 
-/// The null of a type of structures with these fields.
+/// The null of a struct type with these fields.
 pub(crate) fn no_structure(fields: Fields) -> Made {
     match fields {
         Ok(parts) => structure_of(parts, false),

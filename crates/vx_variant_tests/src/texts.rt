@@ -1,5 +1,5 @@
 //! The texts of scalars: `1` for a number of 32 bits, `7w` for one of 64, `v(a)` for a variant, `{a: 1, b: 2}` for a
-//! structure, `[a, b]` for a list, and `null`.
+//! struct, `[a, b]` for a list, and `null`.
 
 use crate::scalars::Made;
 use std::alloc::{AllocError, Global};

@@ -67,7 +67,7 @@ pub(crate) fn made_of_views(
     made_by(alloc, rows, len, Vec::new(alloc), views, bits, 1)
 }
 
-/// Rows by these views into buffers of these bytes, with a validity where there are bits of it.
+/// Rows by these views into buffers of these bytes, with a validity if bits are given.
 pub(crate) fn made(
     alloc: Global,
     rows: Rows,

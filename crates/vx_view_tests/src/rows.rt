@@ -66,7 +66,7 @@ fn is_text(value: &RowValue, row: Option<&[u8]>) -> bool {
     }
 }
 
-// Whether a row is there or not.
+// Whether a row is valid or not.
 fn is_there(array: &Array, index: usize, there: bool) -> bool {
     if index >= array.len() {
         return false;

@@ -48,7 +48,7 @@ abbrev pub plan : Typ → ℕ → ℕ → Option (List Place)
 plan (node (boolean m) end) n k = before_validity [] n k
 plan _ n k = None
 
--- Each child says where rows are: there is none but a validity.
+-- Each child is a control child: there is none but a validity.
 abbrev pub is_control : ℕ → Bool
 is_control i = true
 
@@ -64,6 +64,6 @@ Holds n x = x.offset + n ≤ 8 * length x.bits.bytes
 abbrev pub bit_at : List ℕ → ℕ → Bool
 bit_at bytes i = (slice_index bytes (i / 8) / 2 ^ (i % 8)) % 2 == 1
 
--- A row that is there is its bit: true where that is 1.
+-- A valid row is its bit: true where that is 1.
 abbrev pub rows : ℕ → Data → List Rows → Rows
 rows n x rs = by_validity n (validity rs) (λ i. lone (bool (bit_at x.bits.bytes (x.offset + i))))

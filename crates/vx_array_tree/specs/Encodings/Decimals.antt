@@ -50,7 +50,7 @@ abbrev pub plan : Typ → ℕ → ℕ → Option (List Place)
 plan (node (decimal_kind p s m) end) n k = before_validity [] n k
 plan _ n k = None
 
--- Each child says where rows are: there is none but a validity.
+-- Each child is a control child: there is none but a validity.
 abbrev pub is_control : ℕ → Bool
 is_control i = true
 
@@ -64,6 +64,6 @@ pub record Holds (n : ℕ) (x : Data) : Type 0 where
   pub length_is : length x.values.bytes ≡ decimal_width_of x.values_type * n
   pub aligned : min (decimal_width_of x.values_type) 16 ≤ 2 ^ x.values.exponent
 
--- A row that is there is its integer.
+-- A valid row is its integer.
 abbrev pub rows : ℕ → Data → List Rows → Rows
 rows n x rs = by_validity n (validity rs) (λ i. lone (decimal (decimal_at x.values_type x.values.bytes i)))

@@ -16,7 +16,7 @@ use Rattle.vx_array_tree.specs.Rows.{Rows, first, second, index_at, IsIndex, IsT
 abbrev pub id : List ℕ
 id = codes "vortex.dict"
 
--- A node holds a flag, which is kept as it is told: that some code names each of the values.
+-- A node holds a flag, which is kept as given: that some code names each of the values.
 pub record Data : Type 0 where
   pub all_values_referenced : Bool
 
@@ -52,7 +52,7 @@ body_of v = record { all_values_referenced = v.all_values_referenced }
 abbrev pub plan : Typ → ℕ → Metadata → ℕ → Option (List Place)
 plan d n v k = exactly (place (node (primitive v.codes_ptype v.nullable_codes) end) n ∷ place d v.values_len ∷ []) k
 
--- The codes alone say where rows are.
+-- The codes alone are control children.
 abbrev pub is_control : ℕ → Bool
 is_control i = i == 0
 
@@ -60,7 +60,7 @@ is_control i = i == 0
 abbrev pub Allows : Typ → Metadata → Type 0
 Allows d v = v.nullable_codes ≡ Nullable → nullability d ≡ Nullable
 
--- A type that may be null where another nullability says so.
+-- A type that is also nullable where the given nullability is.
 abbrev pub raised : Nullability → Typ → Typ
 raised Nullable d = with_nullability Nullable d
 raised NonNullable d = d
@@ -85,7 +85,7 @@ pub record IsCode (rs : List Rows) (i : ℕ) : Type 0 where
 abbrev pub Content : ℕ → List Rows → Type 0
 Content n rs = (i : ℕ) → i < n → IsThere (first rs).valid i → IsCode rs i
 
--- A row is there where its code and the value that this names are.
+-- A row is valid where its code and the value that this names are.
 abbrev pub valid_by : Option Bool → (ℕ → Option Bool) → ℕ → Option Bool
 valid_by (Some true) valid c = valid c
 valid_by (Some false) valid c = Some false

@@ -16,7 +16,7 @@ abbrev pub plan : Typ → ℕ → ℕ → Option (List Place)
 plan (node (fixed_size_list s m) (more e end)) n k = when (is_len (n * s)) (before_validity (place e (n * s) ∷ []) n k)
 plan _ n k = None
 
--- Each child but the elements says where rows are.
+-- Each child but the elements is a control child.
 abbrev pub is_control : ℕ → Bool
 is_control i = nat_le 1 i
 
@@ -29,7 +29,7 @@ abbrev pub size_of : Typ → ℕ
 size_of (node (fixed_size_list s m) ts) = s
 size_of _ = 0
 
--- A row that is there is its elements, which stand after those of the rows before it, null or not.
+-- A valid row is its elements, which stand after those of the rows before it, null or not.
 abbrev pub rows : Typ → ℕ → List Rows → Rows
 rows d n rs =
     by_validity_with n (validity (rest rs))

@@ -1,4 +1,4 @@
--- Foreign nodes: those of which nothing is known but their parts.
+-- Foreign nodes: opaque, but for their parts.
 use Rattle.std.specs.Prelude.{ℕ, List, Option, Some, None, length, replicate, refl}
 use Rattle.std.specs.Coded.{Coded, code_by, coded×, coded_list, coded_ℕ}
 use Rattle.vx_buffer.specs.Buffer.{Buffer, coded_buffer}
@@ -40,6 +40,6 @@ plan d n k = Some (replicate k (place d n))
 abbrev pub lifted : Typ → ℕ → List Place → List Place
 lifted d n ps = replicate (length ps) (place d n)
 
--- Nothing is known of any row.
+-- Opaque: any row.
 abbrev pub rows : ℕ → Rows
 rows n = record { len = n; valid = λ i. None; row = λ i. lone opaque; cells = λ i. 1 }

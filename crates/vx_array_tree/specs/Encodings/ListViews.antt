@@ -15,7 +15,7 @@ use Rattle.vx_array_tree.specs.Rows.{Rows, by_validity_with, validity, first, se
 abbrev pub id : List ℕ
 id = codes "vortex.listview"
 
--- A node holds a flag, which is kept as it is told and never written: that rows stand one after the other.
+-- A node holds a flag, which is kept as given and never written: that rows stand one after the other.
 pub record Data : Type 0 where
   pub zero_copy : Bool
 
@@ -56,7 +56,7 @@ plan (node (list m) (more e end)) n v k =
     before_validity (place e v.elements_len ∷ place (numbers v.offset_ptype) n ∷ place (numbers v.size_ptype) n ∷ []) n k
 plan _ n v k = None
 
--- Each child but the elements says where rows are.
+-- Each child but the elements is a control child.
 abbrev pub is_control : ℕ → Bool
 is_control i = nat_le 1 i
 
@@ -71,11 +71,11 @@ pub record IsView (elements offsets sizes : Rows) (i : ℕ) : Type 0 where
   pub size : IsThere sizes.valid i → IsIndex sizes i
   pub within : index_at offsets i + index_at sizes i ≤ elements.len
 
--- The views are right where rows are there.
+-- The views are right where rows are valid.
 abbrev pub Content : ℕ → List Rows → Type 0
 Content n rs = (i : ℕ) → i < n → IsThere (validity (rest (rest (rest rs)))) i → IsView (first rs) (second rs) (third rs) i
 
--- A row that is there is as many elements from its offset on as its size says.
+-- A valid row is as many elements from its offset on as its size says.
 abbrev pub rows : ℕ → List Rows → Rows
 rows n rs =
     by_validity_with n (validity (rest (rest (rest rs))))

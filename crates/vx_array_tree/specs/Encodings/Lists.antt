@@ -33,7 +33,7 @@ plan (node (list m) (more e end)) n v k =
     when (is_len (suc n)) (before_validity (place e v.elements_len ∷ place (numbers v.offset_ptype) (suc n) ∷ []) n k)
 plan _ n v k = None
 
--- Each child but the elements says where rows are.
+-- Each child but the elements is a control child.
 abbrev pub is_control : ℕ → Bool
 is_control i = nat_le 1 i
 
@@ -41,7 +41,7 @@ is_control i = nat_le 1 i
 abbrev pub Allows : Typ → ℕ → Type 0
 Allows d k = AllowsValidity d 2 k
 
--- The offsets are right whatever rows are there.
+-- The offsets are right whatever rows are valid.
 abbrev pub Content : ℕ → List Rows → Type 0
 Content n rs = AreOffsets (second rs) n (first rs).len
 
@@ -49,7 +49,7 @@ Content n rs = AreOffsets (second rs) n (first rs).len
 abbrev pub size_at : Rows → ℕ → ℕ
 size_at offsets i = index_at offsets (suc i) - index_at offsets i
 
--- A row that is there is the elements from its offset up to the next.
+-- A valid row is the elements from its offset up to the next.
 abbrev pub rows : ℕ → List Rows → Rows
 rows n rs =
     by_validity_with n (validity (rest (rest rs)))

@@ -17,6 +17,6 @@ abbrev pub plan : Typ → ℕ → ℕ → Option (List Place)
 plan (node null end) n k = exactly [] k
 plan _ n k = None
 
--- No row is there.
+-- No row is valid.
 abbrev pub rows : ℕ → Rows
 rows n = by_validity n (λ i. Some false) (λ i. lone V.null)

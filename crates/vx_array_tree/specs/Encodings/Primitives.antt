@@ -1,4 +1,4 @@
--- Numbers of one kind, one after the other, each with its lowest byte first.
+-- Numbers of one kind, one after the other, each little-endian.
 use Rattle.std.specs.Prelude.{ℕ, ◌≡◌, ◌*◌, ◌^◌, ◌≤◌, List, [], ◌∷◌, Option, Some, None, codes, length, refl, Bool, true}
 use Rattle.std.specs.Coded.{Coded, code_by}
 use Rattle.vx_buffer.specs.Buffer.{Buffer, coded_buffer}
@@ -37,7 +37,7 @@ abbrev pub plan : Typ → ℕ → ℕ → Option (List Place)
 plan (node (primitive p m) end) n k = before_validity [] n k
 plan _ n k = None
 
--- Each child says where rows are: there is none but a validity.
+-- Each child is a control child: there is none but a validity.
 abbrev pub is_control : ℕ → Bool
 is_control i = true
 
@@ -54,6 +54,6 @@ pub record IsFilled (width n : ℕ) (b : Buffer) : Type 0 where
 abbrev pub Holds : Typ → ℕ → Data → Type 0
 Holds d n x = IsFilled (width_of (ptype_of d)) n x.values
 
--- A row that is there is its number.
+-- A valid row is its number.
 abbrev pub rows : Typ → ℕ → Data → List Rows → Rows
 rows d n x rs = by_validity n (validity rs) (λ i. lone (number (primitive_at (ptype_of d) x.values.bytes i)))

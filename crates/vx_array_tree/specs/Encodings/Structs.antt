@@ -1,4 +1,4 @@
--- Structures, by their fields.
+-- Structs, by their fields.
 use Rattle.std.specs.Prelude.{ℕ, suc, ◌==◌, List, Option, Some, None, Bool, true, codes, length, if◌then◌else◌, ◌&&◌}
 use Rattle.vx_trees.specs.Rose.{node, count}
 use Rattle.vx_types.specs.Kind.{structure}
@@ -11,8 +11,7 @@ use Rattle.vx_array_tree.specs.Rows.{Rows, by_validity_with, validity, rest, val
 abbrev pub id : List ℕ
 id = codes "vortex.struct"
 
--- A node is of a type of structures, and has a child for each field, of its type and as many rows, after at
--- most a validity.
+-- A node is of a struct type, and has a child for each field, of its type and as many rows, after at most a validity.
 abbrev pub plan : Typ → ℕ → ℕ → Option (List Place)
 plan (node (structure ns m) ts) n k = behind_validity (places_at ts n) n k
 plan _ n k = None
@@ -29,7 +28,7 @@ Allows d k = AllowsValidity d (width_of d) k
 abbrev pub has_validity : Typ → ℕ → Bool
 has_validity d k = k == suc (width_of d)
 
--- Of k children a validity alone says where rows are.
+-- Of k children a validity alone is a control child.
 abbrev pub is_control : Typ → ℕ → ℕ → Bool
 is_control d k i = has_validity d k && (i == 0)
 
@@ -37,11 +36,11 @@ is_control d k i = has_validity d k && (i == 0)
 abbrev pub fields : Typ → List Rows → List Rows
 fields d rs = if has_validity d (length rs) then rest rs else rs
 
--- Whether a structure is there: where no validity stands, each is.
+-- Whether a struct is valid: without a validity, each is.
 abbrev pub structure_valid : Bool → List Rows → ℕ → Option Bool
 structure_valid b rs i = if b then validity rs i else Some true
 
--- A row that is there is its fields' rows.
+-- A valid row is its fields' rows.
 abbrev pub rows : Typ → ℕ → List Rows → Rows
 rows d n rs =
     by_validity_with n (structure_valid (has_validity d (length rs)) rs)

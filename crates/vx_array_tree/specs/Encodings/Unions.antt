@@ -12,13 +12,13 @@ use Rattle.vx_array_tree.specs.Rows.{Rows, by_validity_with, first, rest, index_
 abbrev pub id : List ℕ
 id = codes "vortex.union"
 
--- A node is of a type of unions, and has the rows' tags, which are null where the unions are, and a child for
--- each member, of its type and as many rows.
+-- A node is of a union type, and has the rows' tags, which are null where the unions are, and a child for each
+-- member, of its type and as many rows.
 abbrev pub plan : Typ → ℕ → ℕ → Option (List Place)
 plan (node (union_kind ns ids m) ts) n k = exactly (place (node (primitive U8 m) end) n ∷ places_at ts n) k
 plan _ n k = None
 
--- The tags alone say where rows are.
+-- The tags alone are control children.
 abbrev pub is_control : ℕ → Bool
 is_control i = i == 0
 
@@ -42,16 +42,16 @@ pub record HasMember (d : Typ) (rs : List Rows) (i : ℕ) : Type 0 where
   pub tag : IsIndex (first rs) i
   pub named : IsTrue (is_some (member_at d rs i))
 
--- The tags are right where rows are there.
+-- The tags are right where rows are valid.
 abbrev pub Content : Typ → ℕ → List Rows → Type 0
 Content d n rs = (i : ℕ) → i < n → IsThere (first rs).valid i → HasMember d rs i
 
--- Rows, or those of which nothing is known. (Where a tag is right, some stand.)
+-- The rows, or opaque ones. (Where a tag is right, there are rows.)
 abbrev pub rows_or_none : Option Rows → Rows
 rows_or_none None = no_rows
 rows_or_none (Some r) = r
 
--- A row that is there is its tag over the member's row at the same index.
+-- A valid row is its tag over the member's row at the same index.
 abbrev pub rows : Typ → ℕ → List Rows → Rows
 rows d n rs =
     by_validity_with n (first rs).valid

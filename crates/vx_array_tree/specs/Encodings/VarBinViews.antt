@@ -47,7 +47,7 @@ plan (node (utf8_kind m) end) n k = before_validity [] n k
 plan (node (binary_kind m) end) n k = before_validity [] n k
 plan _ n k = None
 
--- Each child says where rows are: there is none but a validity.
+-- Each child is a control child: there is none but a validity.
 abbrev pub is_control : ℕ → Bool
 is_control i = true
 
@@ -84,10 +84,10 @@ viewed buffers view =
 abbrev pub bytes_at : Data → ℕ → Option (List ℕ)
 bytes_at x i = viewed x.buffers (take 16 (drop (16 * i) x.views.bytes))
 
--- Where a row is there, so are its bytes, and under the type of texts they are a text.
+-- Where a row is valid, so are its bytes, and under the type of texts they are a text.
 abbrev pub Content : Typ → ℕ → Data → List Rows → Type 0
 Content d n x rs = (i : ℕ) → i < n → IsThere (validity rs) i → (bs : List ℕ) × (bytes_at x i ≡ Some bs) × IsContent d bs
 
--- A row that is there is its bytes.
+-- A valid row is its bytes.
 abbrev pub rows : Typ → ℕ → Data → List Rows → Rows
 rows d n x rs = by_validity n (validity rs) (λ i. lone (mark_of d (unwrap_or (bytes_at x i) [])))

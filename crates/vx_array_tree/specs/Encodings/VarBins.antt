@@ -55,7 +55,7 @@ plan (node (utf8_kind m) end) n v k = planned n v k
 plan (node (binary_kind m) end) n v k = planned n v k
 plan _ n v k = None
 
--- Each child says where rows are: there is none but offsets and a validity.
+-- Each child is a control child: there is none but offsets and a validity.
 abbrev pub is_control : ℕ → Bool
 is_control i = true
 
@@ -63,8 +63,8 @@ is_control i = true
 abbrev pub Allows : Typ → ℕ → Type 0
 Allows d k = AllowsValidity d 1 k
 
--- Offsets are natural numbers that never fall, and the last is at most a total. (Where an offset is not
--- known, nothing is asked of it.)
+-- Offsets are natural numbers that never decrease, and the last is at most a total. (Where an offset is not known,
+-- nothing is asked of it.)
 pub record AreOffsets (offsets : Rows) (n total : ℕ) : Type 0 where
   pub naturals : (i : ℕ) → i ≤ n → IsThere offsets.valid i → IsIndex offsets i
   pub rising : (i : ℕ) → i < n → index_at offsets i ≤ index_at offsets (suc i)
@@ -84,11 +84,11 @@ abbrev pub IsContent : Typ → List ℕ → Type 0
 IsContent (node (utf8_kind m) ts) bs = IsText bs
 IsContent _ bs = Unit {0}
 
--- The offsets are right whatever rows are there; texts are texts where their rows are there.
+-- The offsets are right whatever rows are valid; texts are texts where their rows are valid.
 pub record Content (d : Typ) (n : ℕ) (x : Data) (rs : List Rows) : Type 0 where
   pub offsets : AreOffsets (first rs) n (length x.bytes.bytes)
   pub texts : (i : ℕ) → i < n → IsThere (validity (rest rs)) i → IsContent d (bytes_at x.bytes.bytes (first rs) i)
 
--- A row that is there is its bytes.
+-- A valid row is its bytes.
 abbrev pub rows : Typ → ℕ → Data → List Rows → Rows
 rows d n x rs = by_validity n (validity (rest rs)) (λ i. lone (mark_of d (bytes_at x.bytes.bytes (first rs) i)))

@@ -12,7 +12,7 @@ use Rattle.vx_array_tree.specs.Rows.{Rows, as_rows, first}
 abbrev pub id : List ℕ
 id = codes "vortex.variant"
 
--- The metadata is the type of the shredded child, where one stands.
+-- The metadata is the type of the shredded child, if any.
 abbrev pub Metadata : Type 0
 Metadata = Option Typ
 
@@ -26,26 +26,26 @@ abbrev pub IsFair : Metadata → Type 0
 IsFair None = Unit {0}
 IsFair (Some e) = IsType e
 
--- A node is of a type of variants, and has a core of the same type, and the shredded child where there is one.
+-- A node is of a type of variants, and has a core of the same type, and the shredded child if any.
 abbrev pub plan : Typ → ℕ → Metadata → ℕ → Option (List Place)
 plan (node (variant_kind m) end) n None k = exactly (place (node (variant_kind m) end) n ∷ []) k
 plan (node (variant_kind m) end) n (Some e) k = exactly (place (node (variant_kind m) end) n ∷ place e n ∷ []) k
 plan _ n v k = None
 
--- Whether a row is there, by the shredded row and the core's: a shredded row that is there stands for itself,
--- and where it is null the core's row decides.
+-- Whether a row is valid, by the shredded row and the core's: a valid shredded row decides, and where it is null the
+-- core's does.
 abbrev pub valid_over : Option Bool → Option Bool → Option Bool
 valid_over (Some false) core = core
 valid_over (Some true) core = Some true
 valid_over None core = None
 
--- Whether a type is one of structures.
+-- Whether a type is one of structs.
 abbrev pub is_structure : Typ → Bool
 is_structure (node (structure ns m) ts) = true
 is_structure _ = false
 
--- A typed value that is not null over a core's row: a structure over an opaque one is opaque, since that may
--- hold fields of which nothing is known; all else is merged.
+-- A typed value that is not null over a core's row: a struct over an opaque one is opaque, since that may hold opaque
+-- fields; all else is merged.
 abbrev pub merged_over : Typ → Value → Value → Value
 merged_over d v (node opaque vs) = if is_structure d then lone opaque else merge d v None
 merged_over d v core = merge d v (Some core)

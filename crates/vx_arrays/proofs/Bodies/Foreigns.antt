@@ -36,7 +36,7 @@ pub ruleset foreign_bodies = (foreigns-same, same-foreigns_id, same-foreigns_met
 
 -- ---- with other buffers
 
--- A foreign node takes any buffers in the place of its own.
+-- A foreign node takes any buffers in place of its own.
 pub foreigns_made : (d : Typ) (n : ℕ) (x y : Foreigns.Data) (ts : Trees) (bs : List Buffer) → y ≡ Foreigns.body_of (Foreigns.metadata_of x) bs
     → with_buffers (node (untold d n (B.foreign x)) ts) bs ≡ Some (node (untold d n (B.foreign y)) ts)
 foreigns_made d n x y ts bs q = λ i. Some (node (untold d n (B.foreign (sym q i))) ts)

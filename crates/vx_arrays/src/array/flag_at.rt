@@ -1,4 +1,4 @@
-//! The flags of a validity, asked of each encoding.
+//! The Booleans of a validity, by encoding.
 
 ghost use Rattle.std.specs.Prelude.{◌≡◌, ◌<◌};
 ghost use Rattle.vx_trees.specs.Rose.{label, node, end};
@@ -11,7 +11,7 @@ use crate::array::Array;
 use crate::body::Body;
 
 impl Array {
-    // The row's flag, where this array has the type of a validity; None where the row is no flag.
+    // The row's Boolean, where this array has the type of a validity; None where the row is no Boolean.
     #[cycle(naturals)]
     #[tactic(auto, using(crate::proofs::Untold::untold_node))]
     pub(crate) fn flag_at(&self, index: usize) -> Option<bool>

@@ -1,4 +1,4 @@
-//! Whether a row is there, asked of each encoding.
+//! Whether a row is valid, by encoding.
 
 ghost use Rattle.std.specs.Prelude.{◌≡◌, ◌<◌};
 ghost use Rattle.vx_trees.specs.Rose.{label};
@@ -16,7 +16,7 @@ use crate::encodings::variant::core_in;
 use crate::validity::validity_at;
 
 impl Array {
-    /// Whether the row is there; None where that is not known.
+    /// Whether the row is valid; None where it is opaque.
     #[tactic(auto, using(crate::proofs::Untold::untold_node, crate::proofs::Stored::stored_rows, crate::proofs::Mapped::mapped_rows, crate::proofs::VariantNodes::variant_nodes))]
     pub fn is_valid(&self, index: usize) -> Option<bool>
         requires { index < (label self.now).len }

@@ -1,4 +1,4 @@
-//! Rows as natural numbers, asked of each encoding.
+//! Rows as natural numbers, by encoding.
 
 ghost use Rattle.std.specs.Prelude.{◌≡◌, ◌<◌};
 ghost use Rattle.vx_trees.specs.Rose.{label};
@@ -11,7 +11,7 @@ use crate::encodings::extension::storage_in;
 use crate::encodings::map::entries_in;
 
 impl Array {
-    // The row as a natural number; None where it is none, or is not there, or nothing is known of it.
+    // The row as a natural number; None where it is none, null or opaque.
     #[cycle(naturals)]
     #[tactic(auto, using(crate::proofs::Naturals::naturals, crate::proofs::Untold::untold_node, crate::proofs::Stored::stored_rows, crate::proofs::Mapped::mapped_rows))]
     pub(crate) fn natural_at(&self, index: usize) -> Option<u64>

@@ -1,4 +1,4 @@
-//! Of what a row is made, asked of each encoding.
+//! The parts of a row, by encoding.
 
 ghost use Rattle.std.specs.Prelude.{◌≡◌, ◌<◌};
 ghost use Rattle.vx_trees.specs.Rose.{label};
@@ -19,7 +19,7 @@ use crate::parts::RowParts;
 use vx_rows::LoneRow;
 
 impl Array {
-    // Of what a row is made.
+    // The parts of a row.
     #[tactic(auto, using(crate::proofs::Untold::untold_node, crate::proofs::Stored::stored_rows, crate::proofs::Mapped::mapped_rows))]
     pub(crate) fn parts_at(&self, index: usize) -> RowParts<'_>
         requires { index < (label self.now).len }

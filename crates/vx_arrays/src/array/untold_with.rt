@@ -1,4 +1,4 @@
-//! Other buffers at the root, asked of each encoding.
+//! Other buffers at the root, by encoding.
 
 ghost use Rattle.std.specs.Prelude.{◌≡◌, IfOk, IfErr, Some};
 ghost use Rattle.vx_scalars.specs.Stats.{no_stats};

@@ -1,4 +1,4 @@
-//! What is compared of a node of each encoding.
+//! What equality compares of a node, by encoding.
 
 ghost use Rattle.std.specs.Prelude.{◌≡◌, ◌↔◌, IsTrue};
 ghost use Rattle.vx_arrays.specs.Compared.{compared_body};

@@ -8,7 +8,7 @@ use crate::body::Body;
 use vx_buffer::BufferHandle;
 
 impl Body {
-    /// The buffer of this number.
+    /// The buffer at an index.
     pub fn buffer(&self, index: usize) -> &BufferHandle
         requires { index < length (buffers_of (plain_body self.now)) }
         ensures { slice_get (buffers_of (plain_body self.now)) index ≡ Some result.now }

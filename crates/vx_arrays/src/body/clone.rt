@@ -1,4 +1,4 @@
-//! What a node of each encoding holds, again.
+//! Copies of what a node of each encoding holds.
 
 ghost use Rattle.std.specs.Prelude.{◌≡◌, IfOk, IsOkUnless};
 
@@ -7,7 +7,7 @@ use std::alloc::Global;
 use vx_rows::ArrayError;
 
 impl Body {
-    // The same buffers again. No byte is copied.
+    // A copy that shares the buffers' bytes.
     pub(crate) fn clone(&self, alloc: Global) -> Result<Body, ArrayError>
         ensures ok { IfOk result (λ body. body ≡ self.now) }
         ensures err { IsOkUnless result ArrayError.OutOfMemory }

@@ -1,4 +1,4 @@
-//! Arrays of flags.
+//! Boolean arrays.
 
 ghost use Rattle.std.specs.Prelude.{◌≡◌, ◌<◌, ◌↔◌, IfOk, IfErr, IsOkUnless, IsTrue, ◌+◌, ◌*◌, length, Some};
 ghost use Rattle.vx_trees.specs.Everywhere.{EverywhereBelow};
@@ -26,7 +26,7 @@ use vx_buffer::{BufferHandle, BufferHandles};
 use vx_rows::{ArrayError, LoneRow};
 use vx_types::{DType, Nullability};
 
-/// What a node of flags holds: bits, and how many of them stand before the first row's.
+/// What a Boolean node holds: bits, and the offset of the first row's.
 #[derive(Drop)]
 pub struct BoolData {
     bits: BufferHandle,
@@ -55,7 +55,7 @@ impl BoolData {
         &self.bits
     }
 
-    /// How many bits stand before the first row's.
+    /// The bit offset of the first row.
     pub fn offset(&self) -> usize
         ensures offset { result ≡ self.now.offset }
         ensures below { result < 8 }
@@ -71,7 +71,7 @@ impl BoolData {
         self.offset == other.offset && self.bits.array_eq(&other.bits)
     }
 
-    // The same bits again. No byte is copied.
+    // A copy that shares the bits.
     pub(crate) fn clone(&self, alloc: Global) -> Result<BoolData, ArrayError>
         ensures ok { IfOk result (λ flags. flags ≡ self.now) }
         ensures err { IsOkUnless result ArrayError.OutOfMemory }
@@ -119,7 +119,7 @@ impl BoolData {
         }
     }
 
-    // The array of a node of this type, length and children that holds these buffers in the place of its own.
+    // The array of a node of this type, length and children that holds these buffers in place of its own.
     pub(crate) fn with_buffers(
         &self,
         alloc: Global,
@@ -150,17 +150,18 @@ impl BoolData {
     }
 }
 
-/// Arrays of flags, a bit each.
+/// Boolean arrays, a bit for each row.
 pub struct BoolArray {}
 
 impl BoolArray {
     /// The identifier of the encoding.
     pub const ID: &'static str = "vortex.bool";
 
-    /// The array of `len` flags that the buffer holds from this bit on.
+    /// The array of `len` Booleans, one bit each from bit `offset` of the buffer on, the lowest bit of a byte first.
+    /// `validity` says of each row whether it is valid.
     ///
-    /// `ForeignControl` where such an array would be sound but for a foreign node in the validity, and `BadShape` where it
-    /// is not sound otherwise.
+    /// `ForeignControl` where the array would be sound but for a foreign node in the validity, and `BadShape` where
+    /// the parts do not fit otherwise.
     pub fn try_new(
         alloc: Global,
         bits: BufferHandle,
@@ -184,7 +185,7 @@ impl BoolArray {
     }
 }
 
-// Whether parts of an offset within a byte are of the shape that the encoding asks for.
+// Whether parts with a bit offset below 8 have the shape that the encoding requires.
 fn is_shaped(
     bits: &BufferHandle,
     offset: usize,

@@ -26,8 +26,7 @@ use vx_buffer::{BufferHandle, BufferHandles};
 use vx_rows::{ArrayError, LoneRow, decimal_at, is_filled};
 use vx_types::{DType, DecimalDType, DecimalType, Nullability};
 
-/// What a node of decimals holds: their unscaled integers, one after the other, each with its lowest byte first, and
-/// the width of each.
+/// What a decimal node holds: the unscaled integers, one after the other, each little-endian, and the width of each.
 #[derive(Drop)]
 pub struct DecimalData {
     values: BufferHandle,
@@ -106,7 +105,7 @@ impl DecimalData {
         }
     }
 
-    // The array of a node of this type, length and children that holds these buffers in the place of its own.
+    // The array of a node of this type, length and children that holds these buffers in place of its own.
     pub(crate) fn with_buffers(
         &self,
         alloc: Global,
@@ -145,13 +144,12 @@ impl DecimalArray {
     /// The identifier of the encoding.
     pub const ID: &'static str = "vortex.decimal";
 
-    /// The array of `len` decimals whose unscaled integers the buffer holds, each of the width `values_type` with its
-    /// lowest byte first, aligned to that width or, where it is wider, to 16 bytes. The width need not be the least
-    /// that the digits want, and no integer is held against them. Where some rows are null, `validity` holds for each
-    /// row whether it is there.
+    /// The array of `len` decimals whose unscaled integers the buffer holds, each of the width `values_type`,
+    /// little-endian and aligned to that width or, where it is wider, to 16 bytes. The width may exceed that of the
+    /// digits, and the integers are not checked against the digits. `validity` says of each row whether it is valid.
     ///
-    /// `ForeignControl` where such an array would be sound but for a foreign node in the validity, and `BadShape` where it
-    /// is not sound otherwise.
+    /// `ForeignControl` where the array would be sound but for a foreign node in the validity, and `BadShape` where
+    /// the parts do not fit otherwise.
     pub fn try_new(
         alloc: Global,
         buffer: BufferHandle,
@@ -176,7 +174,7 @@ impl DecimalArray {
     }
 }
 
-// Whether parts are of the shape that the encoding asks for.
+// Whether parts have the shape that the encoding requires.
 fn is_shaped(
     buffer: &BufferHandle,
     values_type: DecimalType,

@@ -1,4 +1,4 @@
-//! Arrays of dictionaries, whose rows are named by codes among values.
+//! Dictionary arrays, whose codes are indices into their values.
 
 ghost use Rattle.std.specs.Prelude.{◌≡◌, ◌<◌, ◌≤◌, ◌↔◌, ◌∷◌, [], IfOk, IfErr, IfSome, IfNone, IsOkUnless, IsTrue};
 ghost use Rattle.vx_trees.specs.Rose.{count, end, label, more, node, roses_of};
@@ -27,7 +27,7 @@ use std::marker::Model;
 use vx_rows::{ArrayError, LoneRow};
 use vx_types::{DType, Nullability, or_memory};
 
-/// What a node of a dictionary holds beside its codes and its values: a flag, which is kept as it is told.
+/// What a dictionary node holds beside its codes and its values: a flag, kept as given.
 #[derive(Drop)]
 pub struct DictData {
     all_values_referenced: bool,
@@ -44,14 +44,14 @@ impl Model for DictData {
 }
 
 impl DictData {
-    /// Whether some code is said to name each of the values.
+    /// Whether the flag says that each value is referenced by some code. It is not checked.
     pub fn all_values_referenced(&self) -> bool
         ensures { result ≡ self.now.all_values_referenced }
     {
         self.all_values_referenced
     }
 
-    // Whether what is compared of two flags is equal: nothing is.
+    // Two flags always compare as equal.
     pub(crate) fn array_eq(&self, other: &DictData) -> bool
         ensures { IsTrue result ↔ (compared_body (B.dict self.now) ≡ compared_body (B.dict other.now)) }
     {
@@ -59,7 +59,7 @@ impl DictData {
         true
     }
 
-    // The same flag again.
+    // A copy.
     pub(crate) fn clone(&self) -> DictData
         ensures { result ≡ self.now }
     {
@@ -89,7 +89,7 @@ impl DictData {
         }
     }
 
-    // Of what a row is made in a node of this type, length and children.
+    // The parts of a row of a node of this type, length and children.
     #[tactic(auto, using(crate::proofs::Dictionaries::dict_parts))]
     pub(crate) fn parts_at<'a>(
         &self,
@@ -121,18 +121,18 @@ impl DictData {
     }
 }
 
-/// Arrays of dictionaries, whose rows are named by codes among values.
+/// Dictionary arrays, whose codes are indices into their values.
 pub struct DictArray {}
 
 impl DictArray {
     /// The identifier of the encoding.
     pub const ID: &'static str = "vortex.dict";
 
-    /// The array whose rows are those of the values that codes name: a row is null where its code is, or the value that
-    /// this names. Whether some code names each of the values is kept as it is told.
+    /// The array whose row is the value at the row's code. A row is null where its code or that value is. The flag
+    /// says that each value is referenced by some code; it is kept as given and not checked.
     ///
-    /// `BadShape` where the codes are no integers. `ForeignControl` where they hold a foreign node. `BadContent` where a
-    /// code that is not null is below 0, or at or past the values.
+    /// `BadShape` where the codes are not integers. `ForeignControl` where they hold a foreign node. `BadContent`
+    /// where a code that is not null is below 0, or not below the number of values.
     pub fn try_new(
         alloc: Global,
         codes: Array,
@@ -157,8 +157,8 @@ impl DictArray {
 
     /// The array of a node of this type and length over these children, which holds this flag.
     ///
-    /// Refused as by [`DictArray::try_new`], and as `BadShape` where they are not codes of so many rows and values of the
-    /// type, but for the nullability that the codes bring.
+    /// Refused as by [`DictArray::try_new`], and as `BadShape` where they are not codes of this length and values of
+    /// the type, which may lack the nullability of the codes.
     pub fn of_children(
         alloc: Global,
         dtype: DType,
@@ -187,7 +187,7 @@ impl DictArray {
     }
 }
 
-// The two of some arrays, where there are two.
+// The two arrays, if there are exactly two.
 fn pair_of(children: &[Array]) -> Option<(&Array, &Array)>
     ensures some { IfSome result (λ pair. roses_of children.now ≡ more pair.0.now (more pair.1.now end)) }
     ensures none { IfNone result (count (roses_of children.now) ≡ 2 → ⊥) }
@@ -208,7 +208,7 @@ fn is_of_codes(dtype: &DType) -> bool
     }
 }
 
-// A type that may be null where another nullability says so.
+// A type that is also nullable where the given nullability is.
 fn raised_type(alloc: Global, nullability: Nullability, dtype: &DType) -> Result<DType, ArrayError>
     ensures ok { IfOk result (λ d. typ d ≡ raised nullability (typ dtype.now)) }
     ensures err { IsOkUnless result ArrayError.OutOfMemory }
@@ -220,8 +220,8 @@ fn raised_type(alloc: Global, nullability: Nullability, dtype: &DType) -> Result
     Ok(or_memory(raised)?)
 }
 
-// Whether the values' type, with the nullability that codes bring, is the dictionary's. Where they bring none that the
-// values lack, this takes no memory.
+// Whether the values' type, nullable also where the codes are, is the dictionary's. It allocates only where the codes
+// are nullable and the values are not.
 fn is_raised(
     alloc: Global,
     nullability: Nullability,
@@ -276,7 +276,7 @@ fn is_shaped(
     }
 }
 
-// Whether the content of codes and values is right: each code that is there names one of the values.
+// Whether the content of codes and values is right: each code that is not null is an index into the values.
 #[tactic(auto, using(crate::proofs::Dictionaries::contents))]
 fn has_content(dtype: &DType, len: usize, flag: bool, children: &[Array]) -> bool
     requires { IsWellShaped (dict_head (typ dtype.now) len flag) (roses_of children.now) }
@@ -303,7 +303,7 @@ fn are_codes(codes: &Array, values: &Array, len: usize) -> bool
     true
 }
 
-// Whether a row's code, where it is there, names one of the values.
+// Whether a row's code, where it is not null, is an index into the values.
 #[tactic(auto, using(crate::proofs::Dictionaries::code_steps))]
 fn is_code(codes: &Array, values: &Array, index: usize) -> bool
     requires inside { index < (label codes.now).len }

@@ -1,4 +1,4 @@
-//! Arrays of extensions, by their storage.
+//! Extension arrays, over their storage.
 
 ghost use Rattle.std.specs.Prelude.{◌≡◌, ◌↔◌, IfOk, IfErr, IsTrue, option_map};
 ghost use Rattle.vx_trees.specs.Rose.{end, label, more, node, roses_of};
@@ -19,16 +19,16 @@ use std::alloc::Global;
 use vx_rows::ArrayError;
 use vx_types::{DType, ExtDType};
 
-/// Arrays of extensions, by their storage.
+/// Extension arrays, over their storage.
 pub struct ExtensionArray {}
 
 impl ExtensionArray {
     /// The identifier of the encoding.
     pub const ID: &'static str = "vortex.ext";
 
-    /// The array of an extension whose rows are those of its storage.
+    /// The extension array over its storage: each row is that of the storage.
     ///
-    /// `BadShape` where the storage is of another type than the extension is stored as.
+    /// `BadShape` where the storage does not have the extension's storage type.
     pub fn try_new(alloc: Global, ext: ExtDType, storage: Array) -> Result<Array, ArrayError>
         ensures ok { IfOk result (λ a. a ≡ extension_tree ext storage) }
         ensures sound { IfOk result IsSound }
@@ -43,7 +43,7 @@ impl ExtensionArray {
 
     /// The array of a node of this type and length over these children.
     ///
-    /// `BadShape` where they are not one storage of so many rows and of the type that the extension is stored as.
+    /// `BadShape` where they are not one storage of this length and of the extension's storage type.
     pub fn of_children(dtype: DType, len: usize, children: Arrays) -> Result<Array, ArrayError>
         ensures ok { IfOk result (λ a. a ≡ node (untold (typ dtype) len B.ext) children) }
         ensures sound { IfOk result IsSound }
@@ -70,7 +70,7 @@ pub(crate) fn storage_in<'a>(dtype: &DType, len: usize, children: &'a [Array]) -
     }
 }
 
-// The type of the storage, where a type is that of an extension.
+// The storage type of an extension type; None of any other type.
 fn storage_type(dtype: &DType) -> Option<&DType>
     ensures { option_map (λ d. typ d.now) result ≡ storage_of (typ dtype.now) }
 {
@@ -80,7 +80,7 @@ fn storage_type(dtype: &DType) -> Option<&DType>
     }
 }
 
-// Whether arrays are the children of a node of an extension: its storage alone.
+// Whether arrays are the children of an extension node: its storage alone.
 fn is_shaped(dtype: &DType, len: usize, children: &[Array]) -> bool
     ensures { IsTrue result ↔ IsWellShaped (untold (typ dtype.now) len B.ext) (roses_of children.now) }
 {

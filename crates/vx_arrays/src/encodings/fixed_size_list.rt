@@ -25,14 +25,14 @@ use std::alloc::Global;
 use vx_rows::ArrayError;
 use vx_types::{DType, Nullability, TypeRef, or_memory};
 
-/// Arrays of lists of one size, whose elements stand one row's after the other's.
+/// Arrays of lists of one size, whose elements follow one another row by row.
 pub struct FixedSizeListArray {}
 
 impl FixedSizeListArray {
     /// The identifier of the encoding.
     pub const ID: &'static str = "vortex.fixed_size_list";
 
-    // Whether a row is there in a node of this type, length and children; None where that is not known.
+    // Whether a row is valid in a node of this type, length and children; None where that is not known.
     pub(crate) fn valid_at(
         dtype: &DType,
         len: usize,
@@ -48,7 +48,7 @@ impl FixedSizeListArray {
         validity_at(behind, len, index)
     }
 
-    // Of what a row is made in a node of this type, length and children.
+    // The parts of a row of a node of this type, length and children.
     #[tactic(auto, using(crate::proofs::Sized::sized_lists))]
     pub(crate) fn parts_at<'a>(
         dtype: &DType,
@@ -78,11 +78,11 @@ impl FixedSizeListArray {
         )
     }
 
-    /// The array of `len` lists of `size` elements each: there are as many elements as all lists have together, also for
-    /// those that are null. Where some rows are null, `validity` holds for each row whether it is there.
+    /// The array of `len` lists of `size` elements each, over `len * size` elements; a null list has its elements
+    /// too. `validity` says of each row whether it is valid.
     ///
-    /// `ForeignControl` where such an array would be sound but for a foreign node in the validity, and `BadShape` where it
-    /// is not sound otherwise.
+    /// `ForeignControl` where the array would be sound but for a foreign node in the validity, and `BadShape` where
+    /// the parts do not fit otherwise.
     pub fn try_new(
         alloc: Global,
         elements: Array,
@@ -108,7 +108,7 @@ impl FixedSizeListArray {
     }
 }
 
-// Whether parts are of the shape that the encoding asks for.
+// Whether parts have the shape that the encoding requires.
 fn is_shaped(
     elements: &Array,
     size: u32,
@@ -125,7 +125,7 @@ fn is_shaped(
     is_validity(nullability, len, validity)
 }
 
-// Whether a number that can be counted is a product.
+// Whether a `usize` is this product, which may pass `usize`.
 fn is_product(len: usize, size: usize, count: usize) -> bool
     ensures { IsTrue result ↔ (count ≡ len * size) }
 {
@@ -135,7 +135,7 @@ fn is_product(len: usize, size: usize, count: usize) -> bool
     }
 }
 
-// How many elements each row of a type has.
+// How many elements a row of a type has.
 fn size_of(dtype: &DType) -> usize
     requires { IsOfSize (typ dtype.now) }
     ensures size { result ≡ size_of (typ dtype.now) }
@@ -146,7 +146,7 @@ fn size_of(dtype: &DType) -> usize
     }
 }
 
-// The type of lists of so many elements of a type.
+// The type of lists of `size` elements of a type.
 fn list_type(
     alloc: Global,
     element: &DType,

@@ -1,4 +1,4 @@
-//! Foreign arrays: nodes of identifiers that nothing reads, kept whole.
+//! Foreign arrays: nodes of unregistered identifiers, kept as they are.
 
 ghost use Rattle.std.specs.Prelude.{◌≡◌, ◌↔◌, IfOk, IfErr, IsOkUnless, IsTrue, Some};
 ghost use Rattle.vx_trees.specs.Everywhere.{EverywhereBelow};
@@ -25,7 +25,7 @@ use vx_buffer::{BufferHandle, BufferHandles};
 use vx_rows::{ArrayError, owned_bytes};
 use vx_types::{Blob, DType, Id, or_memory};
 
-/// An encoding that nothing reads: its identifier.
+/// An unregistered encoding: its identifier.
 #[derive(Debug, Drop)]
 pub struct ForeignArray {
     id: Id,
@@ -46,7 +46,7 @@ impl ForeignArray {
         &self.id
     }
 
-    /// The same encoding again.
+    /// A copy.
     pub fn clone(&self, alloc: Global) -> Result<ForeignArray, ArrayError>
         ensures ok { IfOk result (λ array. array ≡ self.now) }
         ensures err { IsOkUnless result ArrayError.OutOfMemory }
@@ -85,7 +85,7 @@ impl ForeignArrayData {
         self.buffers.as_slice()
     }
 
-    /// The same again. No buffer's bytes are copied.
+    /// A copy that shares the buffers' bytes.
     pub fn clone(&self, alloc: Global) -> Result<ForeignArrayData, ArrayError>
         ensures ok { IfOk result (λ kept. kept ≡ self.now) }
         ensures err { IsOkUnless result ArrayError.OutOfMemory }
@@ -94,7 +94,7 @@ impl ForeignArrayData {
         self.with_buffers(alloc, buffers)
     }
 
-    // The same metadata again, with these buffers.
+    // A copy of the metadata, with these buffers.
     fn with_buffers(
         &self,
         alloc: Global,
@@ -166,7 +166,7 @@ impl ForeignData {
             && are_same(self.buffers(), other.buffers())
     }
 
-    // The same again. No buffer's bytes are copied.
+    // A copy that shares the buffers' bytes.
     pub(crate) fn clone(&self, alloc: Global) -> Result<ForeignData, ArrayError>
         ensures ok { IfOk result (λ foreign. foreign ≡ self.now) }
         ensures err { IsOkUnless result ArrayError.OutOfMemory }
@@ -176,7 +176,7 @@ impl ForeignData {
         Ok(ForeignData { array, kept })
     }
 
-    // The same with these buffers in the place of its own.
+    // The same node with these buffers in place of its own.
     fn rebuffered(&self, alloc: Global, buffers: BufferHandles) -> Result<ForeignData, ArrayError>
         ensures ok { IfOk result (λ foreign. foreign ≡ body_of (metadata_of self.now) buffers) }
         ensures err { IsOkUnless result ArrayError.OutOfMemory }
@@ -186,7 +186,7 @@ impl ForeignData {
         Ok(ForeignData { array, kept })
     }
 
-    // The array of a node of this type, length and children that holds these buffers in the place of its own.
+    // The array of a node of this type, length and children that holds these buffers in place of its own.
     pub(crate) fn with_buffers(
         &self,
         alloc: Global,
@@ -210,8 +210,8 @@ impl ForeignData {
     }
 }
 
-/// The array of `len` rows of which nothing is known: a node of this identifier that keeps its metadata and its buffers
-/// as they are, over any children.
+/// The array of `len` opaque rows: a foreign node of this identifier that keeps its metadata and buffers unread, over
+/// any children.
 pub fn new_foreign_array(
     _alloc: Global,
     id: Id,

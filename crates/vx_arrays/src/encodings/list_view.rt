@@ -31,8 +31,7 @@ use std::marker::Model;
 use vx_rows::ArrayError;
 use vx_types::{DType, Nullability};
 
-/// What a node of list views holds: whether its rows stand one after the other. That is kept as it is told, and never
-/// written.
+/// What a list view node holds: whether its rows follow one another. That is kept as given, and never written.
 #[derive(Drop)]
 pub struct ListViewData {
     zero_copy: bool,
@@ -49,7 +48,7 @@ impl Model for ListViewData {
 }
 
 impl ListViewData {
-    /// Whether it is told that the rows stand one after the other.
+    /// Whether the flag says that the rows follow one another. It is not checked.
     pub fn zero_copy(&self) -> bool
         ensures { result ≡ self.now.zero_copy }
     {
@@ -64,7 +63,7 @@ impl ListViewData {
         self.zero_copy == other.zero_copy
     }
 
-    // The same flag again.
+    // A copy.
     pub(crate) fn again(&self) -> ListViewData
         ensures { result ≡ self.now }
     {
@@ -73,7 +72,7 @@ impl ListViewData {
         }
     }
 
-    // Whether a row is there in a node of this type, length and children; None where that is not known.
+    // Whether a row is valid in a node of this type, length and children; None where that is not known.
     #[tactic(auto, using(crate::proofs::ListViewed::list_views))]
     pub(crate) fn valid_at(
         &self,
@@ -93,7 +92,7 @@ impl ListViewData {
         validity_at(behind, len, index)
     }
 
-    // Of what a row is made in a node of this type, length and children.
+    // The parts of a row of a node of this type, length and children.
     #[tactic(auto, using(crate::proofs::ListViewed::list_views))]
     pub(crate) fn parts_at<'a>(
         &self,
@@ -136,13 +135,12 @@ impl ListViewArray {
     pub const ID: &'static str = "vortex.listview";
 
     /// The array of lists, each of as many elements from its offset on as its size says: there are as many rows as
-    /// offsets. Where some rows are null, `validity` holds for each row whether it is there. Whether the rows stand one
-    /// after the other is kept as it is told.
+    /// offsets. `validity` says of each row whether it is valid. Whether the rows follow one another is kept as
+    /// given.
     ///
-    /// `BadShape` where the offsets or the sizes are no integers that are never null, where there are not as many of
-    /// both, or where the validity may not stand. `ForeignControl` where the offsets, the sizes or the validity hold a
-    /// foreign node. `BadContent` where in a row that is there the offset or the size is below 0, or the elements end past
-    /// the last.
+    /// `BadShape` where the offsets or the sizes are not non-nullable integers, where their numbers differ, or where
+    /// the validity is not allowed. `ForeignControl` where the offsets, the sizes or the validity hold a foreign
+    /// node. `BadContent` where in a valid row the offset or the size is below 0, or the elements end past the last.
     pub fn try_new(
         alloc: Global,
         elements: Array,
@@ -192,7 +190,7 @@ impl ListViewArray {
     }
 }
 
-// Whether arrays are the children of a node of list views: elements, offsets, sizes, and at most a validity.
+// Whether arrays are the children of a list view node: elements, offsets, sizes, and at most a validity.
 #[tactic(auto, using(crate::proofs::ListViewed::shapes))]
 fn is_shaped(zero_copy: bool, dtype: &DType, len: usize, children: &[Array]) -> bool
     ensures { IsTrue result ↔ IsWellShaped (untold (typ dtype.now) len (views_of zero_copy)) (roses_of children.now) }
@@ -233,14 +231,14 @@ fn is_element(dtype: &DType, elements: &Array) -> bool
     }
 }
 
-// Whether an array has an integer for each of so many rows.
+// Whether an array has an integer for each of n rows.
 fn are_counts(array: &Array, len: usize) -> bool
     ensures { IsTrue result ↔ AreCounts len array.now }
 {
     array.len() == len && is_of_offsets(array.dtype())
 }
 
-// Whether the content of such children is right: each row that is there has its elements.
+// Whether the content of such children is right: each valid row has its elements.
 #[tactic(auto, using(crate::proofs::ListViewed::list_views))]
 fn has_content(zero_copy: bool, dtype: &DType, len: usize, children: &[Array]) -> bool
     requires { IsWellShaped (untold (typ dtype.now) len (views_of zero_copy)) (roses_of children.now) }
@@ -254,7 +252,7 @@ fn has_content(zero_copy: bool, dtype: &DType, len: usize, children: &[Array]) -
     are_views(elements, offsets, sizes, behind, len)
 }
 
-// Whether each of so many rows that is there has its elements.
+// Whether each of n rows, where it is valid, has its elements.
 #[tactic(auto, using(crate::proofs::ListViewed::loops))]
 fn are_views(elements: &Array, offsets: &Array, sizes: &Array, behind: &[Array], len: usize) -> bool
     requires offsets { (label offsets.now).len ≡ len }
@@ -271,7 +269,7 @@ fn are_views(elements: &Array, offsets: &Array, sizes: &Array, behind: &[Array],
     true
 }
 
-// Whether a row has its elements, where it is there.
+// Whether a row has its elements, where it is valid.
 fn is_right(
     valid: Option<bool>,
     elements: &Array,
@@ -306,7 +304,7 @@ fn is_view(elements: &Array, offsets: &Array, sizes: &Array, index: usize) -> bo
     }
 }
 
-// Where the elements of a row begin and how many there are, where the row is there; else nowhere and none.
+// Where the elements of a row begin and how many there are, where the row is valid; else nowhere and none.
 #[tactic(auto, using(crate::proofs::ListViewed::views))]
 fn view_at(
     valid: Option<bool>,

@@ -35,7 +35,7 @@ impl ListArray {
     /// The identifier of the encoding.
     pub const ID: &'static str = "vortex.list";
 
-    // Whether a row is there in a node of this type, length and children; None where that is not known.
+    // Whether a row is valid in a node of this type, length and children; None where that is not known.
     #[tactic(auto, using(crate::proofs::Listed::lists))]
     pub(crate) fn valid_at(
         dtype: &DType,
@@ -53,7 +53,7 @@ impl ListArray {
         validity_at(behind, len, index)
     }
 
-    // Of what a row is made in a node of this type, length and children.
+    // The parts of a row of a node of this type, length and children.
     #[tactic(auto, using(crate::proofs::Listed::lists))]
     pub(crate) fn parts_at<'a>(
         dtype: &DType,
@@ -87,11 +87,11 @@ impl ListArray {
     }
 
     /// The array of lists whose elements stand from an offset up to the next one: there is one row less than offsets.
-    /// Where some rows are null, `validity` holds for each row whether it is there.
+    /// `validity` says of each row whether it is valid.
     ///
-    /// `BadShape` where there are no offsets or they are no integers that are never null, or where the validity may not
-    /// stand. `ForeignControl` where the offsets or the validity hold a foreign node. `BadContent` where an offset is below
-    /// 0, below the one before or past the elements.
+    /// `BadShape` where there are no offsets or they are not non-nullable integers, or where the validity is not
+    /// allowed. `ForeignControl` where the offsets or the validity hold a foreign node. `BadContent` where an offset
+    /// is below 0, below the one before or past the elements.
     pub fn try_new(
         alloc: Global,
         elements: Array,
@@ -141,7 +141,7 @@ pub(crate) fn element_type(dtype: &DType) -> Option<&DType>
     }
 }
 
-// Whether arrays are the children of a node of lists: elements, an offset more than rows, and at most a validity.
+// Whether arrays are the children of a list node: elements, an offset more than rows, and at most a validity.
 #[tactic(auto, using(crate::proofs::Listed::shapes))]
 fn is_shaped(dtype: &DType, len: usize, children: &[Array]) -> bool
     ensures { IsTrue result ↔ IsWellShaped (untold (typ dtype.now) len B.list) (roses_of children.now) }

@@ -31,8 +31,8 @@ impl MapArray {
 
     /// The array of maps whose rows are lists of entries, which are null where the maps are.
     ///
-    /// `BadShape` where the entries are of an encoding that is known and no list view, or no lists of the structures of a
-    /// key and a value that the type of the maps asks for. `ForeignControl` where they are foreign.
+    /// `BadShape` where the entries have a registered encoding other than list view, or are not lists of the entry
+    /// structs of the map's type. `ForeignControl` where they are foreign.
     pub fn try_new(alloc: Global, map: MapDType, entries: Array) -> Result<Array, ArrayError>
         ensures ok { IfOk result (λ a. a ≡ map_tree map entries) }
         ensures sound { IfOk result IsSound }
@@ -48,7 +48,7 @@ impl MapArray {
 
     /// The array of a node of this type and length over these children.
     ///
-    /// `BadShape` where they are not one array of so many rows of entries, in lists by views. `ForeignControl` where that
+    /// `BadShape` where they are not one array of n rows of entries, in lists by views. `ForeignControl` where that
     /// is foreign.
     pub fn of_children(dtype: DType, len: usize, children: Arrays) -> Result<Array, ArrayError>
         ensures ok { IfOk result (λ a. a ≡ node (untold (typ dtype) len B.map) children) }
@@ -76,7 +76,7 @@ pub(crate) fn entries_in<'a>(dtype: &DType, len: usize, children: &'a [Array]) -
     }
 }
 
-// Whether arrays are the children of a node of maps: their entries alone.
+// Whether arrays are the children of a map node: its entries alone.
 #[tactic(auto, using(crate::proofs::Mapped::shapes))]
 fn is_shaped(dtype: &DType, len: usize, children: &[Array]) -> bool
     ensures { IsTrue result ↔ IsWellShaped (untold (typ dtype.now) len B.map) (roses_of children.now) }
@@ -87,7 +87,7 @@ fn is_shaped(dtype: &DType, len: usize, children: &[Array]) -> bool
     }
 }
 
-// Whether an array is the entries of so many maps of a type: of the type of their lists, and a list view as far as its
+// Whether an array is the entries of n maps of a type: of the type of their lists, and a list view as far as its
 // encoding is known.
 fn are_entries(dtype: &DType, len: usize, entries: &Array) -> bool
     ensures { IsTrue result ↔ AreEntries (typ dtype.now) len entries.now }
@@ -118,7 +118,7 @@ fn are_lists_of_entries(dtype: &DType, lists: &DType) -> bool
     }
 }
 
-// Whether a type is that of an entry: a structure of a key and a value that are of the map's types.
+// Whether a type is that of an entry: a struct of a key and a value that are of the map's types.
 fn is_entry(map: &MapDType, dtype: &DType) -> bool
     ensures { IsTrue result ↔ (typ dtype.now ≡ entries map.now) }
 {

@@ -1,4 +1,4 @@
-//! Arrays of nulls.
+//! Null arrays.
 
 ghost use Rattle.std.specs.Prelude.{◌≡◌, IfOk, IfErr, IsOkUnless, Some};
 ghost use Rattle.vx_trees.specs.Rose.{node, roses_of};
@@ -17,7 +17,7 @@ use vx_buffer::BufferHandles;
 use vx_rows::ArrayError;
 use vx_types::DType;
 
-/// Arrays of which each row is null.
+/// Arrays in which each row is null.
 pub struct NullArray {}
 
 impl NullArray {
@@ -33,7 +33,7 @@ impl NullArray {
         Ok(Array::from_parts(DType::Null, len, Body::Null, Vec::new(alloc)))
     }
 
-    // The array of a node of this type, length and children that holds these buffers in the place of its own.
+    // The array of a node of this type, length and children that holds these buffers in place of its own.
     pub(crate) fn with_buffers(
         alloc: Global,
         dtype: &DType,

@@ -1,4 +1,4 @@
-//! Arrays of numbers.
+//! Primitive arrays.
 
 ghost use Rattle.std.specs.Prelude.{◌≡◌, ◌<◌, ◌↔◌, IfOk, IfErr, IsOkUnless, IsTrue, Some};
 ghost use Rattle.vx_trees.specs.Everywhere.{EverywhereBelow};
@@ -26,8 +26,8 @@ use vx_buffer::{BufferHandle, BufferHandles};
 use vx_rows::{ArrayError, LoneRow, is_filled, natural, number_at};
 use vx_types::{DType, Nullability, PType};
 
-/// What a node of numbers holds: the numbers, one after the other, each with its lowest byte first. Their kind
-/// is that of the node's type.
+/// What a primitive node holds: the numbers, one after the other, little-endian. Their kind is that of the node's
+/// type.
 #[derive(Drop)]
 pub struct PrimitiveData {
     values: BufferHandle,
@@ -59,7 +59,7 @@ impl PrimitiveData {
         self.values.array_eq(&other.values)
     }
 
-    // The same numbers again. No byte is copied.
+    // A copy that shares the bytes.
     pub(crate) fn clone(&self, alloc: Global) -> Result<PrimitiveData, ArrayError>
         ensures ok { IfOk result (λ numbers. numbers ≡ self.now) }
         ensures err { IsOkUnless result ArrayError.OutOfMemory }
@@ -126,7 +126,7 @@ impl PrimitiveData {
         }
     }
 
-    // The array of a node of this type, length and children that holds these buffers in the place of its own.
+    // The array of a node of this type, length and children that holds these buffers in place of its own.
     pub(crate) fn with_buffers(
         &self,
         alloc: Global,
@@ -157,18 +157,18 @@ impl PrimitiveData {
     }
 }
 
-/// Arrays of numbers, one after the other in a buffer.
+/// Primitive arrays, whose values stand one after the other in a buffer.
 pub struct PrimitiveArray {}
 
 impl PrimitiveArray {
     /// The identifier of the encoding.
     pub const ID: &'static str = "vortex.primitive";
 
-    /// The array of `len` numbers that the buffer holds, each with its lowest byte first, aligned to their
-    /// width. Where some rows are null, `validity` holds for each row whether it is there.
+    /// The array of the `len` little-endian numbers in the buffer, which is aligned to their width. `validity` says
+    /// of each row whether it is valid.
     ///
-    /// `ForeignControl` where such an array would be sound but for a foreign node in the validity, and `BadShape` where it
-    /// is not sound otherwise.
+    /// `ForeignControl` where the array would be sound but for a foreign node in the validity, and `BadShape` where
+    /// the parts do not fit otherwise.
     pub fn try_new(
         alloc: Global,
         buffer: BufferHandle,
@@ -189,7 +189,7 @@ impl PrimitiveArray {
     }
 }
 
-// Whether parts are of the shape that the encoding asks for.
+// Whether parts have the shape that the encoding requires.
 fn is_shaped(
     buffer: &BufferHandle,
     ptype: PType,

@@ -1,4 +1,4 @@
-//! Arrays of structures.
+//! Struct arrays.
 
 ghost use Rattle.std.specs.Prelude.{◌≡◌, ◌<◌, ◌≤◌, ◌↔◌, Err, IfOk, IfErr, IsOkUnless, IsTrue, length};
 ghost use Rattle.vx_trees.specs.Everywhere.{EverywhereBelow};
@@ -26,14 +26,14 @@ use std::alloc::Global;
 use vx_rows::ArrayError;
 use vx_types::{DType, Nullability, StructFields};
 
-/// Arrays of structures, with an array for each field.
+/// Struct arrays, with an array for each field.
 pub struct StructArray {}
 
 impl StructArray {
     /// The identifier of the encoding.
     pub const ID: &'static str = "vortex.struct";
 
-    // Whether a row is there in a node of this type, length and children; None where that is not known.
+    // Whether a row is valid in a node of this type, length and children; None where that is not known.
     pub(crate) fn valid_at(
         dtype: &DType,
         len: usize,
@@ -58,7 +58,7 @@ impl StructArray {
         }
     }
 
-    // Of what a row is made in a node of this type, length and children.
+    // The parts of a row of a node of this type, length and children.
     #[tactic(auto, using(crate::proofs::Fielded::fielded))]
     pub(crate) fn parts_at<'a>(
         dtype: &DType,
@@ -80,8 +80,8 @@ impl StructArray {
         where_there(valid, RowParts::Across { arrays, index })
     }
 
-    /// The array of `len` structures of these fields, with one column of `len` rows for each field. Where some rows are
-    /// null, `validity` says of each row whether it is there.
+    /// The array of `len` structs of these fields, with one column of `len` rows for each field. Where some rows are
+    /// null, `validity` says of each row whether it is valid.
     ///
     /// `BadShape` where there are more or fewer columns than fields, where a validity is given under a type that is not
     /// nullable, and where a column or the validity has another type or length. `ForeignControl` where a foreign node
@@ -150,7 +150,7 @@ fn are_struct_parts(
     }
 }
 
-// The array of `len` structures over these children.
+// The array of `len` structs over these children.
 fn over_columns(
     fields: StructFields,
     nullability: Nullability,
@@ -168,7 +168,7 @@ fn over_columns(
     over_children(dtype, len, Body::Struct, children, shaped, true)
 }
 
-// How many fields a type of structures has.
+// How many fields a struct type has.
 pub(crate) fn width_of(dtype: &DType) -> usize
     requires { IsOfFields (typ dtype.now) }
     ensures { result ≡ width_of (typ dtype.now) }
@@ -179,7 +179,7 @@ pub(crate) fn width_of(dtype: &DType) -> usize
     }
 }
 
-// The arrays of the fields among the children of a node of structures: all, but for a validity in front.
+// The arrays of the fields among the children of a struct node: all, but for a validity in front.
 fn columns_of<'a>(dtype: &DType, children: &'a [Array]) -> &'a [Array]
     requires { IsOfFields (typ dtype.now) }
     ensures { roses_of result.now ≡ field_trees (typ dtype.now) (roses_of children.now) }
@@ -196,7 +196,7 @@ fn columns_of<'a>(dtype: &DType, children: &'a [Array]) -> &'a [Array]
     }
 }
 
-// Whether arrays are the children of a node of structures: the columns of the fields, after a validity only where rows may
+// Whether arrays are the children of a struct node: the columns of the fields, after a validity only where rows may
 // be null.
 fn are_shaped(
     fields: &StructFields,
@@ -218,7 +218,7 @@ fn are_shaped(
     }
 }
 
-// Whether an array may stand in front of the columns, as the validity of so many rows.
+// Whether an array may stand in front of the columns, as the validity of n rows.
 fn is_front(nullability: Nullability, validity: &Array, len: usize) -> bool
     ensures { IsTrue result ↔ ((nullability ≡ Nullable) × (array_place validity.now ≡ validity_place len)) }
 {
@@ -228,7 +228,7 @@ fn is_front(nullability: Nullability, validity: &Array, len: usize) -> bool
     }
 }
 
-// Whether arrays are the columns of fields of these types, each of so many rows.
+// Whether arrays are the columns of fields of these types, each of n rows.
 pub(crate) fn are_columns(types: &[DType], columns: &[Array], len: usize) -> bool
     ensures { IsTrue result ↔ (places (roses_of columns.now) ≡ places_at (roses_of (typs types.now)) len) }
 {
@@ -243,7 +243,7 @@ pub(crate) fn are_columns(types: &[DType], columns: &[Array], len: usize) -> boo
     true
 }
 
-// The children of a node of structures: a validity, where one stands, and then the columns.
+// The children of a struct node: a validity, if any, and then the columns.
 fn behind_validity(validity: Option<Array>, columns: Arrays) -> Result<Vec<Array>, ArrayError>
     ensures children { IfOk result (λ children. roses_of children.items ≡ behind_validity validity columns) }
     ensures sound { IfOk result (λ children. EverywhereBelow IsSoundNode (roses_of children.items)) }

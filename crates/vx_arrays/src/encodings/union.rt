@@ -1,4 +1,4 @@
-//! Arrays of unions, by the tags of their rows.
+//! Union arrays, over the tags of their rows.
 
 ghost use Rattle.std.specs.Prelude.{◌≡◌, ◌<◌, ◌≤◌, ◌↔◌, IfOk, IfErr, IfSome, IsOkUnless, IsTrue, option_map};
 ghost use Rattle.vx_trees.specs.Everywhere.{EverywhereBelow};
@@ -32,14 +32,14 @@ use std::alloc::Global;
 use vx_rows::{ArrayError, LoneRow};
 use vx_types::{DType, Nullability, PType, UnionVariants};
 
-/// Arrays of unions, with the tags of their rows and an array for each member.
+/// Union arrays, over the tags of their rows and an array for each member.
 pub struct UnionArray {}
 
 impl UnionArray {
     /// The identifier of the encoding.
     pub const ID: &'static str = "vortex.union";
 
-    // Of what a row is made in a node of this type, length and children.
+    // The parts of a row of a node of this type, length and children.
     #[tactic(auto, using(crate::proofs::Tagged::tagged))]
     pub(crate) fn parts_at<'a>(
         dtype: &DType,
@@ -63,11 +63,12 @@ impl UnionArray {
         }
     }
 
-    /// The array of the unions of these members that have these tags, of which each member's array has as many rows: a row
-    /// is that of the member which its tag names. It is null where its tag is.
+    /// The array of unions over the tags of the rows and an array of the same length for each member: a row is that
+    /// of the member which its tag names, and null where its tag is.
     ///
-    /// `BadShape` where the tags are no numbers of 8 bits without a sign, or where the arrays are not those of the members.
-    /// `ForeignControl` where the tags hold a foreign node. `BadContent` where a tag that is not null is none of a member.
+    /// `BadShape` where the tags are not of type U8, or where the arrays are not those of the members.
+    /// `ForeignControl` where the tags hold a foreign node. `BadContent` where a tag that is not null names no
+    /// member.
     pub fn try_new(
         _alloc: Global,
         variants: UnionVariants,
@@ -89,7 +90,7 @@ impl UnionArray {
 
     /// The array of a node of this type and length over these children.
     ///
-    /// Refused as by [`UnionArray::try_new`], and as `BadShape` where there are not as many tags as rows.
+    /// Refused as by [`UnionArray::try_new`], and as `BadShape` where the number of tags is not the length.
     pub fn of_children(dtype: DType, len: usize, children: Arrays) -> Result<Array, ArrayError>
         ensures ok { IfOk result (λ a. a ≡ node (untold (typ dtype) len B.union) children) }
         ensures sound { IfOk result IsSound }
@@ -115,7 +116,7 @@ fn over_tags(dtype: DType, len: usize, children: Vec<Array>) -> Result<Array, Ar
     over_children(dtype, len, Body::Union, children, shaped, right)
 }
 
-// The children of a node of unions: the tags, and then the members.
+// The children of a union node: the tags, and then the members.
 fn behind_tags(type_ids: Array, members: Arrays) -> Result<Vec<Array>, ArrayError>
     ensures children { IfOk result (λ children. roses_of children.items ≡ more type_ids members) }
     ensures sound { IfOk result (λ children. EverywhereBelow IsSoundNode (roses_of children.items)) }
@@ -142,7 +143,7 @@ pub(crate) fn tags_in<'a>(dtype: &DType, len: usize, children: &'a [Array]) -> &
     tags
 }
 
-// Of what a row that is there is made: of its tag, and of the row of the member that it names.
+// The parts of a valid row: its tag, and the row of the member that the tag names.
 #[tactic(auto, using(crate::proofs::Tagged::tagged))]
 fn tagged_at<'a>(dtype: &DType, len: usize, children: &'a [Array], index: usize) -> RowParts<'a>
     requires sound { IsSoundNode (untold (typ dtype.now) len B.union) (roses_of children.now) }
@@ -166,7 +167,7 @@ fn tagged_at<'a>(dtype: &DType, len: usize, children: &'a [Array], index: usize)
     }
 }
 
-// The tags of the members of a type: none, where it is no type of unions.
+// The tags of the members of a union type; none of any other type.
 fn ids_of(dtype: &DType) -> &[u8]
     ensures { result.now ≡ tags_of (typ dtype.now) }
 {
@@ -176,7 +177,7 @@ fn ids_of(dtype: &DType) -> &[u8]
     }
 }
 
-// The member that a number names, with its tag: the one whose tag it is.
+// The member whose tag is this number, with the tag.
 #[tactic(auto, using(crate::proofs::Tagged::naming))]
 fn named<'a>(ids: &[u8], members: &'a [Array], number: u64) -> Option<(u8, &'a Array)>
     ensures member { option_map (λ m. m.1.now) result ≡ member number ids.now (roses_of members.now) }
@@ -190,7 +191,7 @@ fn named<'a>(ids: &[u8], members: &'a [Array], number: u64) -> Option<(u8, &'a A
     None
 }
 
-// Whether arrays are the children of a node of unions: the tags, and then an array for each member.
+// Whether arrays are the children of a union node: the tags, and then an array for each member.
 fn is_shaped(dtype: &DType, len: usize, children: &[Array]) -> bool
     ensures { IsTrue result ↔ IsWellShaped (untold (typ dtype.now) len B.union) (roses_of children.now) }
 {
@@ -200,7 +201,7 @@ fn is_shaped(dtype: &DType, len: usize, children: &[Array]) -> bool
     }
 }
 
-// The same of a type of unions of these members.
+// The same of a union type of these members.
 fn are_shaped(
     members: &UnionVariants,
     nullability: Nullability,
@@ -218,14 +219,14 @@ fn are_shaped(
     }
 }
 
-// Whether an array may be the tags of so many rows, which may be null where it may.
+// Whether an array may be the tags of `len` rows, of the union's nullability.
 fn are_tags(nullability: Nullability, tags: &Array, len: usize) -> bool
     ensures { IsTrue result ↔ (array_place tags.now ≡ place (node (primitive U8 nullability) end) len) }
 {
     stands_at(tags, &DType::Primitive(PType::U8, nullability), len)
 }
 
-// Whether the content of such children is right: each tag that is there is one of a member.
+// Whether the content of such children is right: each tag that is not null names a member.
 #[tactic(auto, using(crate::proofs::Tagged::contents))]
 fn has_content(dtype: &DType, len: usize, children: &[Array]) -> bool
     requires { IsWellShaped (untold (typ dtype.now) len B.union) (roses_of children.now) }
@@ -241,7 +242,7 @@ fn has_content(dtype: &DType, len: usize, children: &[Array]) -> bool
     true
 }
 
-// Whether a row's tag, where it is there, is one of a member.
+// Whether a row's tag, where it is not null, names a member.
 #[tactic(auto, using(crate::proofs::Tagged::naming))]
 fn is_tagged(ids: &[u8], tags: &Array, members: &[Array], index: usize) -> bool
     requires inside { index < (label tags.now).len }

@@ -63,7 +63,7 @@ impl VarBinData {
         self.bytes.array_eq(&other.bytes)
     }
 
-    // The same bytes again. No byte is copied.
+    // A copy that shares the bytes.
     pub(crate) fn clone(&self, alloc: Global) -> Result<VarBinData, ArrayError>
         ensures ok { IfOk result (λ parts. parts ≡ self.now) }
         ensures err { IsOkUnless result ArrayError.OutOfMemory }
@@ -73,7 +73,7 @@ impl VarBinData {
         })
     }
 
-    // Whether a row is there in a node of this type, length and children; None where that is not known.
+    // Whether a row is valid in a node of this type, length and children; None where that is not known.
     pub(crate) fn valid_at(
         &self,
         dtype: &DType,
@@ -120,7 +120,7 @@ impl VarBinData {
         }
     }
 
-    // The array of a node of this type, length and children that holds these buffers in the place of its own.
+    // The array of a node of this type, length and children that holds these buffers in place of its own.
     pub(crate) fn with_buffers(
         &self,
         alloc: Global,
@@ -160,13 +160,13 @@ impl VarBinArray {
     /// The identifier of the encoding.
     pub const ID: &'static str = "vortex.varbin";
 
-    /// The array of texts or of bytes, by its type, whose rows stand in the buffer from an offset up to the next one:
-    /// there is one row less than offsets. Where some rows are null, `validity` holds for each row whether it is there.
+    /// The array of texts or bytes, by its type: a row is the bytes of the buffer from its offset up to the next one,
+    /// so there is one row fewer than offsets. `validity` says of each row whether it is valid.
     ///
-    /// `BadShape` where the type is another one, where there are no offsets or they are no integers that are never null,
-    /// or where the validity may not stand. `ForeignControl` where the offsets or the validity hold a foreign node.
-    /// `BadContent` where an offset is below 0, below the one before or past the bytes, or where a row of a type of texts
-    /// is there and no text.
+    /// `BadShape` where the type is neither Utf8 nor Binary, where there are no offsets or they are not non-nullable
+    /// integers, or where the validity is not allowed. `ForeignControl` where the offsets or the validity hold a
+    /// foreign node. `BadContent` where an offset is below 0, below the one before or past the bytes, or where a
+    /// valid row of type Utf8 is not UTF-8.
     pub fn try_new(
         alloc: Global,
         dtype: DType,
@@ -190,8 +190,8 @@ impl VarBinArray {
     }
 }
 
-// Whether parts are of the shape that the encoding asks for, where there is one row less than offsets: over no offsets
-// there is none.
+// Whether parts have the shape that the encoding requires, with one row fewer than offsets. No offsets are no right
+// shape.
 fn are_parts(dtype: &DType, len: usize, offsets: &Array, validity: &Option<Array>) -> bool
     requires { len ≡ (label offsets.now).len - 1 }
     ensures shaped { (b : Buffer) → IsTrue result ↔ IsWellShaped (varbin_head (typ dtype.now) len b) (more offsets.now (option_trees validity.now)) }
@@ -203,7 +203,7 @@ fn are_parts(dtype: &DType, len: usize, offsets: &Array, validity: &Option<Array
     is_shaped(dtype, len, offsets, validity)
 }
 
-// Whether parts are of the shape that the encoding asks for.
+// Whether parts have the shape that the encoding requires.
 fn is_shaped(dtype: &DType, len: usize, offsets: &Array, validity: &Option<Array>) -> bool
     requires counted { (label offsets.now).len ≡ suc len }
     requires few { suc len < 2 ^ 64 }
@@ -219,8 +219,8 @@ fn is_shaped(dtype: &DType, len: usize, offsets: &Array, validity: &Option<Array
     is_validity(dtype.nullability(), len, validity)
 }
 
-// Whether the content of parts of the right shape is right, where the offsets hold no foreign node; others are not looked
-// at, since nothing bounds how many rows such a node has.
+// Whether the content of parts of the right shape is right. It is not looked at where the offsets hold a foreign
+// node, since nothing bounds the number of rows of such a node.
 fn is_right(
     dtype: &DType,
     len: usize,

@@ -31,7 +31,7 @@ use vx_buffer::{BufferHandle, BufferHandles};
 use vx_rows::{ArrayError, LoneRow, copied_type, owned_text, viewed};
 use vx_types::{DType, Name};
 
-/// What a node of texts or of bytes by views holds: the buffers that views name by their numbers, and a view for each
+/// What a node of texts or bytes by views holds: the data buffers, to which views refer by index, and a view for each
 /// row.
 #[derive(Drop)]
 pub struct VarBinViewData {
@@ -50,7 +50,7 @@ impl Model for VarBinViewData {
 }
 
 impl VarBinViewData {
-    /// The buffers that views name, in their order.
+    /// The data buffers, in their order.
     pub fn buffers(&self) -> &[BufferHandle]
         ensures { result.now ≡ self.now.buffers }
     {
@@ -71,7 +71,7 @@ impl VarBinViewData {
         self.buffers.as_slice().len() + 1
     }
 
-    // The buffer of this number: the views stand last.
+    // The buffer at an index; the views are the last.
     pub(crate) fn buffer(&self, index: usize) -> &BufferHandle
         requires { index < length (buffers_of self.now) }
         ensures { slice_get (buffers_of self.now) index ≡ Some result.now }
@@ -82,7 +82,7 @@ impl VarBinViewData {
         }
     }
 
-    // The name of the buffer of this number, where there is one.
+    // The name of the buffer at an index, if any.
     pub(crate) fn buffer_name(
         &self,
         alloc: Global,
@@ -103,7 +103,7 @@ impl VarBinViewData {
         Ok(Some(owned_text(alloc, text.as_str())?))
     }
 
-    // Whether the views and the buffers that they name are equal, whatever the alignments.
+    // Whether the views and the data buffers are equal, whatever the alignments.
     #[tactic(auto, using(crate::proofs::Bodies::VarBinViews::varbinview_bodies))]
     pub(crate) fn array_eq(&self, other: &VarBinViewData) -> bool
         ensures { IsTrue result ↔ (compared_body (B.varbinview self.now) ≡ compared_body (B.varbinview other.now)) }
@@ -112,7 +112,7 @@ impl VarBinViewData {
             && are_same(self.buffers.as_slice(), other.buffers.as_slice())
     }
 
-    // The same buffers again. No byte is copied.
+    // A copy that shares the buffers' bytes.
     pub(crate) fn clone(&self, alloc: Global) -> Result<VarBinViewData, ArrayError>
         ensures ok { IfOk result (λ views. views ≡ self.now) }
         ensures err { IsOkUnless result ArrayError.OutOfMemory }
@@ -123,7 +123,7 @@ impl VarBinViewData {
         })
     }
 
-    // The bytes of a row, where its view tells some.
+    // The bytes of a row, if its view is right.
     fn bytes_at(&self, index: usize) -> Option<&[u8]>
         requires { 16 * index + 16 ≤ length self.now.views.bytes }
         ensures { option_map (λ b. b.now) result ≡ bytes_at self.now index }
@@ -132,7 +132,7 @@ impl VarBinViewData {
         viewed(self.buffers.as_slice(), &views[16 * index..16 * index + 16])
     }
 
-    // Whether a row's view tells bytes that the type asks for, where the row is there.
+    // Whether a valid row's view gives bytes that fit the type.
     fn is_right_at(&self, dtype: &DType, len: usize, validity: &Option<Array>, index: usize) -> bool
         requires filled { length self.now.views.bytes ≡ 16 * len }
         requires planned { before_validity [] len (count (option_trees validity.now)) ≡ Some (places (option_trees validity.now)) }
@@ -164,7 +164,7 @@ impl VarBinViewData {
         true
     }
 
-    // Whether parts are of the shape that the encoding asks for.
+    // Whether parts have the shape that the encoding requires.
     fn is_shaped(&self, dtype: &DType, len: usize, validity: &Option<Array>) -> bool
         ensures shaped { IsTrue result ↔ IsWellShaped (varbinview_head (typ dtype.now) len self.now) (option_trees validity.now) }
         ensures sound { IsTrue result → EverywhereBelow IsSoundNode (option_trees validity.now) }
@@ -207,7 +207,7 @@ impl VarBinViewData {
         }
     }
 
-    // The array of a node of this type, length and children that holds these buffers in the place of its own.
+    // The array of a node of this type, length and children that holds these buffers in place of its own.
     pub(crate) fn with_buffers(
         &self,
         alloc: Global,
@@ -235,7 +235,7 @@ impl VarBinViewData {
     }
 }
 
-// Whether the buffers are as many and have the same bytes.
+// Whether the buffers have the same number and the same bytes.
 #[tactic(auto, using(crate::proofs::Comparing::alike))]
 pub(crate) fn are_same(buffers: &[BufferHandle], others: &[BufferHandle]) -> bool
     ensures { IsTrue result ↔ (map bare buffers.now ≡ map bare others.now) }
@@ -251,7 +251,7 @@ pub(crate) fn are_same(buffers: &[BufferHandle], others: &[BufferHandle]) -> boo
     true
 }
 
-// The same buffers again, in their order. No byte is copied.
+// Copies of the buffers, in their order, that share the bytes.
 fn clones(alloc: Global, buffers: &[BufferHandle]) -> Result<Vec<BufferHandle>, ArrayError>
     ensures ok { IfOk result (λ copies. copies.items ≡ buffers.now) }
     ensures err { IsOkUnless result ArrayError.OutOfMemory }
@@ -263,23 +263,22 @@ fn clones(alloc: Global, buffers: &[BufferHandle]) -> Result<Vec<BufferHandle>, 
     Ok(copies)
 }
 
-/// Arrays of texts or of bytes by views of 16 bytes each: a row of at most 12 bytes stands in its view, and a longer one
-/// in a buffer that the view names.
+/// Arrays of texts or bytes by views of 16 bytes each: a row of at most 12 bytes is inline in its view, and a longer
+/// one in a data buffer to which the view refers.
 pub struct VarBinViewArray {}
 
 impl VarBinViewArray {
     /// The identifier of the encoding.
     pub const ID: &'static str = "vortex.varbinview";
 
-    /// The array of `len` texts or bytes, by its type, each told by its view of 16 bytes. A view is the number of bytes,
-    /// in four bytes, and up to 12 bytes themselves; of more bytes it holds the first four, the number of the buffer in
-    /// which all of them stand, and the offset at which they begin. Where some rows are null, `validity` holds for each
-    /// row whether it is there.
+    /// The array of `len` texts or bytes, by its type, each given by a view of 16 bytes. A view is the size as a u32,
+    /// then up to 12 bytes inline; of more bytes, the first four as a prefix, the index of a data buffer and the
+    /// offset in it, each a u32. `validity` says of each row whether it is valid.
     ///
-    /// `BadShape` where the type is another one, where the views are not so many or not aligned to 16 bytes, or where the
-    /// validity may not stand. `ForeignControl` where the validity holds a foreign node. `BadContent` where the view of a
-    /// row that is there names a buffer or bytes that are not there, where the bytes do not begin as it says, or where a
-    /// row of a type of texts is there and no text.
+    /// `BadShape` where the type is neither Utf8 nor Binary, where the views are not `len` or not aligned to 16
+    /// bytes, or where the validity is not allowed. `ForeignControl` where the validity holds a foreign node.
+    /// `BadContent` where the view of a valid row refers to a buffer or bytes that do not exist, where these do not
+    /// begin with its prefix, or where a valid row of type Utf8 is not UTF-8.
     pub fn try_new(
         alloc: Global,
         dtype: DType,

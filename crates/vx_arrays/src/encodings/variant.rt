@@ -1,4 +1,4 @@
-//! Arrays of variants, in part by a typed child, the shredded one, that stands over the core.
+//! Variant arrays, over a core and an optional typed child, the shredded one.
 
 ghost use Rattle.std.specs.Prelude.{◌≡◌, ◌<◌, ◌≤◌, ◌↔◌, IfOk, IfErr, IsOkUnless, IsTrue};
 ghost use Rattle.vx_trees.specs.Rose.{label, more, node, roses_of};
@@ -27,14 +27,14 @@ use std::alloc::Global;
 use vx_rows::{ArrayError, copied_type};
 use vx_types::DType;
 
-/// Arrays of variants, in part by a typed child that stands over the core.
+/// Variant arrays, over a core and an optional typed child.
 pub struct VariantArray {}
 
 impl VariantArray {
     /// The identifier of the encoding.
     pub const ID: &'static str = "vortex.variant";
 
-    // Of what a row is made in a node of this type, length and children.
+    // The parts of a row of a node of this type, length and children.
     #[tactic(auto, using(crate::proofs::Shredded::shredded))]
     pub(crate) fn parts_at<'a>(
         dtype: &DType,
@@ -62,10 +62,10 @@ impl VariantArray {
         }
     }
 
-    /// The array of the core's variants, in which a typed child of as many rows stands over it, where there is one: a row is
-    /// the variant of the two, and that of the core where the typed one is null.
+    /// The array of the core's variants, over which a typed child of the same length may stand: a row is then the
+    /// typed row merged over the core's, and the core's where the typed one is null.
     ///
-    /// `BadShape` where the core is of another type than variants, or the typed child has another number of rows.
+    /// `BadShape` where the core's type is not Variant, or the typed child has another length.
     pub fn try_new(alloc: Global, core: Array, shredded: Option<Array>) -> Result<Array, ArrayError>
         ensures ok { IfOk result (λ a. a ≡ variant_tree core shredded) }
         ensures sound { IfOk result IsSound }
@@ -83,8 +83,8 @@ impl VariantArray {
 
     /// The array of a node of this type and length over these children.
     ///
-    /// `BadShape` where they are not a core of so many rows and of this type, which is one of variants, and after it at most
-    /// a typed child of as many rows.
+    /// `BadShape` where they are not a core of this length and of this type, which is Variant, and after it at most a
+    /// typed child of this length.
     pub fn of_children(dtype: DType, len: usize, children: Arrays) -> Result<Array, ArrayError>
         ensures ok { IfOk result (λ a. a ≡ node (untold (typ dtype) len B.variant) children) }
         ensures sound { IfOk result IsSound }
@@ -96,7 +96,7 @@ impl VariantArray {
     }
 }
 
-// The children of a node of variants: the core, and after it the shredded child, where there is one.
+// The children of a variant node: the core, and after it the shredded child, if any.
 fn with_shredded(alloc: Global, core: Array, shredded: Option<Array>) -> Result<Arrays, ArrayError>
     ensures children { IfOk result (λ children. children ≡ more core (option_trees shredded)) }
     ensures err { IsOkUnless result ArrayError.OutOfMemory }
@@ -127,7 +127,7 @@ pub(crate) fn core_in<'a>(
     parted(children)
 }
 
-// Whether arrays are the children of a node of variants: a core, and after it at most a shredded child.
+// Whether arrays are the children of a variant node: a core, and after it at most a shredded child.
 #[tactic(auto, using(crate::proofs::Shredded::shapes))]
 fn is_shaped(dtype: &DType, len: usize, children: &[Array]) -> bool
     ensures { IsTrue result ↔ IsWellShaped (untold (typ dtype.now) len B.variant) (roses_of children.now) }
@@ -139,7 +139,7 @@ fn is_shaped(dtype: &DType, len: usize, children: &[Array]) -> bool
     }
 }
 
-// Whether an array may be the core of so many variants of a type.
+// Whether an array may be the core of n rows of a Variant type.
 fn is_core(dtype: &DType, core: &Array, len: usize) -> bool
     ensures { IsTrue result ↔ (IsOfVariants (typ dtype.now) × (array_place core.now ≡ place (typ dtype.now) len)) }
 {
@@ -149,7 +149,7 @@ fn is_core(dtype: &DType, core: &Array, len: usize) -> bool
     }
 }
 
-// Whether a typed child has so many rows.
+// Whether a typed child has n rows.
 fn is_beside(shredded: &Array, len: usize) -> bool
     ensures rows { IsTrue result ↔ ((label shredded.now).len ≡ len) }
     ensures typed { IsType (label shredded.now).dtype }

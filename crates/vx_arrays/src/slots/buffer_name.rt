@@ -1,4 +1,4 @@
-//! The name of a buffer, asked of each encoding.
+//! The name of a buffer, by encoding.
 
 ghost use Rattle.std.specs.Prelude.{◌≡◌, ◌∷◌, [], slice_get, IfOk, IsOkUnless};
 ghost use Rattle.vx_trees.specs.Rose.{label};
@@ -12,7 +12,7 @@ use vx_rows::{ArrayError, owned_text};
 use vx_types::Name;
 
 impl Array {
-    /// The name of the root's buffer of this number: `None` exactly past the last.
+    /// The name of the root's buffer at an index; `None` exactly past the last.
     pub fn buffer_name(&self, alloc: Global, index: usize) -> Result<Option<Name>, ArrayError>
         ensures ok { IfOk result (λ name. name ≡ slice_get (buffer_names (label self.now).body) index) }
         ensures err { IsOkUnless result ArrayError.OutOfMemory }
@@ -36,7 +36,7 @@ impl Array {
     }
 }
 
-// The name of the buffer of this number in a node that has one alone.
+// The name of the buffer at an index in a node that has one buffer.
 fn only_name(alloc: Global, name: &'static str, index: usize) -> Result<Option<Name>, ArrayError>
     ensures ok { IfOk result (λ told. told ≡ slice_get (name.now ∷ []) index) }
     ensures err { IsOkUnless result ArrayError.OutOfMemory }

@@ -1,4 +1,4 @@
-//! How many slots a node has, asked of each encoding.
+//! How many slots a node has, by encoding.
 
 ghost use Rattle.std.specs.Prelude.{◌≡◌, length};
 ghost use Rattle.vx_types.specs.Seen.{typ};
@@ -9,7 +9,7 @@ use crate::body::Body;
 use crate::slots::members_of;
 use vx_types::DType;
 
-// How many slots a node of this type has that has so many children.
+// How many slots a node of this type and number of children has.
 pub(crate) fn slots_of(dtype: &DType, body: &Body, count: usize) -> usize
     ensures { result ≡ length (slot_names (typ dtype.now) (plain_body body.now) count) }
 {

@@ -1,4 +1,4 @@
-//! The name of a slot, asked of each encoding.
+//! The name of a slot, by encoding.
 
 ghost use Rattle.std.specs.Prelude.{◌≡◌, ◌<◌, length, slice_get, Some};
 ghost use Rattle.vx_types.specs.Seen.{typ};

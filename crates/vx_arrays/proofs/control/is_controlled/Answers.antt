@@ -1,4 +1,4 @@
--- That is known exactly where each child that says where rows are is, and the entries of maps are.
+-- That is known exactly where each child that is a control child is, and the entries of maps are.
 use Rattle.std.proofs.Common.{ℕ, ◌≡◌, ◌∙◌, length, sym, true}
 use Rattle.std.proofs.lemmas.Bool.{false≢true, iff_false}
 use Rattle.vx_types.specs.Seen.{typ}

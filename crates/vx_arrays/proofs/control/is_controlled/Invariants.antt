@@ -5,6 +5,6 @@ use Rattle.vx_arrays.specs.Plain.{plain_body}
 use Rattle.vx_arrays.proofs.Controlled.{AreKnown}
 use Rattle.vx_arrays.proofs.control.is_controlled.Given as goal
 
--- the children so far that say where rows are hold no foreign node
+-- the children so far that are control children hold no foreign node
 abbrev pub invariant-loop-i : goal.invariant-loop-i
 invariant-loop-i l = AreKnown (λ j. is_control (encoding_of (plain_body l.body)) (typ l.dtype) (length l.children) j) l.children l.i

@@ -1,4 +1,4 @@
--- Where one more than the parts is no number that can be counted, no array has so many rows.
+-- Where one more than the parts is no number that can be counted, no array has n rows.
 use Rattle.std.proofs.Common.{arith}
 use Rattle.vx_arrays.proofs.offsets.are_counted.Goals as goal
 

@@ -1,4 +1,4 @@
--- One part more is a text, where its row is there.
+-- One part more is a text, where its row is valid.
 use Rattle.std.proofs.Common.{below_more}
 use Rattle.vx_arrays.proofs.texts.are_texts.Goals as goal
 

@@ -1,4 +1,4 @@
--- Structures are merged field by field: those that are given, and then those that are left over.
+-- Structs are merged field by field: those that are given, and then those that are left over.
 use Rattle.std.proofs.Common.{[], Some, ap, sym, subst, ◌+◌, ◌∙◌, take}
 use Rattle.std.specs.Prelude.{option_map}
 use Rattle.vx_types.specs.Seen.{typ}

@@ -5,7 +5,7 @@ use Rattle.vx_scalars.specs.Seen.{value_of}
 use Rattle.vx_rows.specs.Merging.{AreNamed, given_at, listed, raw_of}
 use Rattle.vx_rows.proofs.merging.+merging.Given as goal
 
--- A structure is merged field by field.
+-- A struct is merged field by field.
 abbrev pub decreases-merged : goal.decreases-merged
 decreases-merged l = 3 * nodes (value_of l.value.now)
 

@@ -1,4 +1,4 @@
--- A structure of the right names is an entry's where its types are right.
+-- A struct of the right names is an entry's where its types are right.
 use Rattle.std.proofs.Common.{◌∙◌}
 use Rattle.vx_types.specs.Seen.{typs}
 use Rattle.vx_arrays.proofs.Entries.{entry_decides}

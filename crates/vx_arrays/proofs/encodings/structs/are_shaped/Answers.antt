@@ -1,4 +1,4 @@
--- Arrays are the children of structures where they are the columns, or where those stand after a validity.
+-- Arrays are the children of structs where they are the columns, or where those stand after a validity.
 use Rattle.std.proofs.Common.{◌≡◌, ◌-◌, ◌∙◌, List, IsTrue, refl, sym, ap, subst, length, take, drop}
 use Rattle.std.specs.Prelude.{◌↔◌}
 use Rattle.vx_trees.specs.Rose.{count, roses_of}

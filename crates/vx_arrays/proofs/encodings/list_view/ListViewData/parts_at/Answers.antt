@@ -1,4 +1,4 @@
--- A row is made of its elements, where it is there.
+-- A row is made of its elements, where it is valid.
 use Rattle.vx_trees.specs.Rose.{roses_of}
 use Rattle.vx_types.specs.Seen.{typ}
 use Rattle.vx_arrays.specs.Parts.{parts_cells, parts_value}

@@ -1,4 +1,4 @@
--- A row that is there is its columns' rows.
+-- A valid row is its columns' rows.
 use Rattle.vx_trees.specs.Rose.{roses_of}
 use Rattle.vx_types.specs.Seen.{typ}
 use Rattle.vx_arrays.specs.Parts.{parts_cells, parts_value}

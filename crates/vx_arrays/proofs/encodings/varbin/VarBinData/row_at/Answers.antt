@@ -1,4 +1,4 @@
--- The children are offsets and what stands after them; a row that is there is its bytes.
+-- The children are offsets and what stands after them; a valid row is its bytes.
 use Rattle.std.proofs.Common.{◌∙◌, ◌-◌, ap, sym, Bool, Some, length, take, drop}
 use Rattle.vx_buffer.specs.Buffer.{Buffer}
 use Rattle.vx_trees.specs.Rose.{roses_of}

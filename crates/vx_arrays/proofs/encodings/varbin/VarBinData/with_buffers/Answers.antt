@@ -1,4 +1,4 @@
--- The children are the offsets, and a validity where one stands.
+-- The children are the offsets, and a validity if any.
 use Rattle.std.proofs.Common.{◌≡◌, Some, ap}
 use Rattle.vx_trees.specs.Rose.{node, roses_of}
 use Rattle.vx_types.specs.Seen.{typ}

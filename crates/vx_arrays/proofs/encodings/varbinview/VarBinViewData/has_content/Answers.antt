@@ -1,4 +1,4 @@
--- One view more is right, where its row is there.
+-- One view more is right, where its row is valid.
 use Rattle.std.proofs.Common.{below_more}
 use Rattle.vx_arrays.proofs.encodings.varbinview.VarBinViewData.has_content.Goals as goal
 
