@@ -7,3 +7,5 @@ mod messages;
 mod reading;
 #[cfg(test)]
 mod statistics;
+#[cfg(test)]
+mod whole;

@@ -11,8 +11,8 @@ fn number(value: i32) -> ScalarValue {
     ScalarValue::Primitive(PValue::I32(value))
 }
 
-// The numbers 42 and 43.
-fn two_numbers(alloc: Global) -> Result<Values, TypeError> {
+/// The numbers 42 and 43.
+pub(crate) fn two_numbers(alloc: Global) -> Result<Values, TypeError> {
     let mut values = Values::new(alloc);
     values.push(Some(number(42)))?;
     values.push(Some(number(43)))?;
@@ -204,8 +204,8 @@ fn a_hundred_messages_nest_in_memory(rt: HostRuntime) {
     assert!(rt; refusal_of_tuples(alloc, 51) == Ok(Some(ScalarWireError::TooDeep)));
 }
 
-// A variant of a type and a value.
-fn variant(
+/// A variant of a type and a value.
+pub(crate) fn variant(
     alloc: Global,
     dtype: DType,
     value: Option<ScalarValue>,
@@ -242,8 +242,12 @@ fn scalar() -> Result<Scalar, TypeError> {
     Scalar::try_new(numbers, Some(number(42)))
 }
 
-// Whether a scalar is written as these bytes.
-fn is_scalar(alloc: Global, scalar: &Scalar, bytes: &[u8]) -> Result<bool, ScalarWireError> {
+/// Whether a scalar is written as these bytes.
+pub(crate) fn is_scalar(
+    alloc: Global,
+    scalar: &Scalar,
+    bytes: &[u8],
+) -> Result<bool, ScalarWireError> {
     let message = scalar.to_proto(alloc)?;
     let written = message.encode_to_vec(alloc)?;
     Ok(written.as_slice() == bytes)

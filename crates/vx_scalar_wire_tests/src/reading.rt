@@ -484,8 +484,8 @@ fn a_null_needs_a_nullable_type(rt: HostRuntime) {
     assert!(rt; is_null_refused(alloc, &DType::Utf8(Nullability::Nullable)) == Ok(false));
 }
 
-// The scalar of a message of these bytes.
-fn scalar_of(alloc: Global, bytes: &[u8]) -> Result<Scalar, ScalarWireError> {
+/// The scalar of a message of these bytes.
+pub(crate) fn scalar_of(alloc: Global, bytes: &[u8]) -> Result<Scalar, ScalarWireError> {
     let message = pb::Scalar::decode(alloc, bytes)?;
     let readers = ExtSession::new(alloc);
     Scalar::from_proto(alloc, &message, &readers)
@@ -530,8 +530,8 @@ fn push_length(bytes: &mut Vec<u8>, length: usize) -> Result<(), AllocError> {
     Ok(())
 }
 
-// A message around another of under 16,384 bytes: its key, its length, and the other.
-fn around(alloc: Global, key: u8, inner: &[u8]) -> Result<Vec<u8>, AllocError> {
+/// A message around another of under 16,384 bytes: its key, its length, and the other.
+pub(crate) fn around(alloc: Global, key: u8, inner: &[u8]) -> Result<Vec<u8>, AllocError> {
     let mut bytes = Vec::from_slice(alloc, &[key])?;
     push_length(&mut bytes, inner.len())?;
     bytes.extend_from_slice(inner)?;
