@@ -7,7 +7,7 @@ use vx_arrays::{
     Array, ArrayError, BoolArray, NullArray, PrimitiveArray, RowValue, validity_all_invalid,
 };
 use vx_buffer::Alignment;
-use vx_nested_parts::parts::both;
+use vx_test_arrays::parts::both;
 use vx_types::{Nullability, PType, PValue};
 
 // A validity or none, or why it is not made.

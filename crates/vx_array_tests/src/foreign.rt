@@ -7,7 +7,7 @@ use vx_arrays::{
     PrimitiveArray, RowValue, new_foreign_array,
 };
 use vx_buffer::{Alignment, BufferHandle, BufferHandles};
-use vx_nested_parts::parts::both;
+use vx_test_arrays::parts::both;
 use vx_types::{Blob, DType, Id, Nullability, PType};
 
 // Of which type rows are.

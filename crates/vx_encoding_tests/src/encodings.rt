@@ -8,8 +8,8 @@ use vx_encodings::{
     ArrayHead, BoolMetadata, ChildPlan, ChildPlans, Encoding, EncodingError, build, has_message,
     metadata, plan,
 };
-use vx_nested_parts::parts::both;
 use vx_proto::{Message, ProtoError};
+use vx_test_arrays::parts::both;
 use vx_type_wire::ExtSession;
 use vx_types::{Blob, DType, Id, Nullability, PType, TypeError};
 

@@ -8,8 +8,8 @@ use std::hash::{FoldHasher, Hasher};
 use vx_array_tests::parts::{Made, aligned_to, buffer_of, flags, numbers, some};
 use vx_arrays::{Array, ArrayError, NullArray, PrimitiveArray, VarBinViewArray};
 use vx_buffer::{BufferHandle, BufferHandles};
-use vx_nested_parts::parts::both;
 use vx_scalars::Stat;
+use vx_test_arrays::parts::both;
 use vx_types::{DType, DecimalType, Nullability, PType, PValue};
 
 // The words 1, 2, 3, 4, of four bytes each.

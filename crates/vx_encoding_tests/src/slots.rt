@@ -7,7 +7,7 @@ use vx_arrays::{
     Array, ArrayError, BoolArray, DecimalArray, NullArray, PrimitiveArray, validity_all_invalid,
 };
 use vx_buffer::{Alignment, BufferHandle};
-use vx_nested_parts::parts::both;
+use vx_test_arrays::parts::both;
 use vx_types::{DecimalDType, DecimalType, Nullability, PType};
 
 const MAYBE: Nullability = Nullability::Nullable;

@@ -7,8 +7,8 @@ use vx_array_tests::parts::{Made, buffer_of, flags, numbers, row_of, some, value
 use vx_arrays::{Array, ArrayError, RowValue, VarBinArray};
 use vx_buffer::Alignment;
 use vx_encodings::{Encoding, EncodingError, VarBinMetadata, metadata};
-use vx_nested_parts::parts::both;
 use vx_proto::{Message, ProtoError};
+use vx_test_arrays::parts::both;
 use vx_types::{DType, Nullability, PType};
 
 // What the rows are.

@@ -3,9 +3,9 @@
 use std::alloc::{AllocError, Global};
 use vx_arrays::{Array, ArrayError, VarBinArray};
 use vx_buffer::{BufferHandle, ByteBuffer};
-use vx_nested_parts::parts::{Made, There, both, bytes, dicts, nulls, numbers};
 use vx_registry::{ArrayContext, ArraySession, RegistryError, VortexSession};
 use vx_serde::{ArrayExt, SerializeOptions, WireError};
+use vx_test_arrays::parts::{Made, There, both, bytes, dicts, nulls, numbers};
 use vx_type_wire::ExtSession;
 use vx_types::{DType, Id, Ids, Nullability, PType, TypeError};
 

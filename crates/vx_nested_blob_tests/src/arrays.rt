@@ -1,7 +1,7 @@
 //! The arrays that are written.
 
 use std::alloc::Global;
-use vx_nested_parts::parts::{
+use vx_test_arrays::parts::{
     AllMade, Made, There, and, bytes, extensions, fixed, lists, none, nulls, numbers, one, structs,
     texts, two, unions,
 };

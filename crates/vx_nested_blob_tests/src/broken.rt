@@ -3,10 +3,8 @@
 use crate::arrays::{Nested, made};
 use crate::wire::{Change, refusal};
 use std::alloc::Global;
-use vx_nested_parts::parts::{
-    AllMade, Made, There, and, flags, lists, numbers, texts, two, unions,
-};
 use vx_serde::WireError;
+use vx_test_arrays::parts::{AllMade, Made, There, and, flags, lists, numbers, texts, two, unions};
 use vx_types::PType;
 
 // The offsets 0, 2, 2 and 3 of four bytes.

@@ -4,10 +4,10 @@ use crate::wire::{blob_with, recoded_with, unbuilt};
 use std::alloc::Global;
 use vx_arrays::{Array, ArrayError, Arrays, new_foreign_array};
 use vx_buffer::BufferHandles;
-use vx_nested_parts::parts::{Made, There, both, bytes, dicts, extensions, lists, one, structs};
-use vx_nested_parts::rows::takes;
 use vx_registry::ArrayContext;
 use vx_serde::{SerializeOptions, SerializedArray, WireError};
+use vx_test_arrays::parts::{Made, There, both, bytes, dicts, extensions, lists, one, structs};
+use vx_test_arrays::rows::takes;
 use vx_types::{Blob, DType, Id, TypeError};
 
 // The node at each level of a tree but the lowest, which is a number.

@@ -4,8 +4,8 @@ use crate::steps::{has_metadata, unplanned, unwritten};
 use crate::wire::{Change, is_read_as, refusal};
 use std::alloc::Global;
 use vx_encodings::{Encoding, EncodingError};
-use vx_nested_parts::parts::{Made, There, bytes, dicts, extensions, fixed, nulls, numbers, texts};
 use vx_serde::WireError;
+use vx_test_arrays::parts::{Made, There, bytes, dicts, extensions, fixed, nulls, numbers, texts};
 use vx_types::PType;
 
 // Dictionaries of four rows over the texts x, y and z.

@@ -7,10 +7,10 @@ use crate::wire::{Change, blob_of, kept, recoded_kept, unwritten_array};
 use std::alloc::Global;
 use vx_arrays::Array;
 use vx_buffer::ByteBuffer;
-use vx_nested_parts::parts::Made;
-use vx_nested_parts::rows::begins_with;
 use vx_registry::ArrayContext;
 use vx_serde::{Recoded, WireError};
+use vx_test_arrays::parts::Made;
+use vx_test_arrays::rows::begins_with;
 
 // The name that replaces an encoding's.
 const NEW: &str = "x.new";

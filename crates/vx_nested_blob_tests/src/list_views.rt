@@ -5,11 +5,11 @@ use crate::wire::{Change, is_read_as, refusal};
 use std::alloc::Global;
 use vx_arrays::ListViewArray;
 use vx_encodings::{Encoding, EncodingError};
-use vx_nested_parts::parts::{
+use vx_serde::WireError;
+use vx_test_arrays::parts::{
     AllMade, Made, There, both, bytes, extensions, fixed, lists, maps, nulls, numbers, structs,
     texts, two, views,
 };
-use vx_serde::WireError;
 use vx_types::{Nullability, PType};
 
 // Arrays of two rows.

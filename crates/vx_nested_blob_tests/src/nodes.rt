@@ -3,7 +3,7 @@
 use crate::arrays::{Nested, made};
 use crate::steps::{has_metadata, unplanned};
 use vx_encodings::{Encoding, EncodingError};
-use vx_nested_parts::parts::{There, bytes, lists};
+use vx_test_arrays::parts::{There, bytes, lists};
 
 // Arrays, and their metadata.
 const METADATA: [(Nested, &[u8]); 6] = [

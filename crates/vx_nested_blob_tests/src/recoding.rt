@@ -3,9 +3,9 @@
 use crate::wire::recoded;
 use std::alloc::Global;
 use vx_arrays::Array;
-use vx_nested_parts::parts::{Made, There, extensions, numbers};
-use vx_nested_parts::rows::begins_with;
 use vx_registry::ArrayContext;
+use vx_test_arrays::parts::{Made, There, extensions, numbers};
+use vx_test_arrays::rows::begins_with;
 use vx_types::{Ids, PType};
 
 // The numbers 1 to 4.

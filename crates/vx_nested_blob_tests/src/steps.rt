@@ -3,7 +3,7 @@
 use std::alloc::Global;
 use vx_arrays::Array;
 use vx_encodings::{ArrayHead, Encoding, EncodingError, metadata, plan};
-use vx_nested_parts::parts::{Made, both};
+use vx_test_arrays::parts::{Made, both};
 use vx_type_wire::ExtSession;
 use vx_types::{Blob, DType, Id, TypeError};
 

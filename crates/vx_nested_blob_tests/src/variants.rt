@@ -5,10 +5,10 @@ use crate::wire::{Change, kept, unwritten_array};
 use std::alloc::Global;
 use vx_arrays::Array;
 use vx_encodings::{Encoding, EncodingError};
-use vx_nested_parts::parts::{
+use vx_serde::WireError;
+use vx_test_arrays::parts::{
     Made, There, bytes, extensions, fixed, numbers, shredded, texts, unknown_variants,
 };
-use vx_serde::WireError;
 use vx_types::PType;
 
 // The numbers 1 and 2, of which the first is there.

@@ -3,11 +3,11 @@
 use std::alloc::{AllocError, Global};
 use vx_arrays::{Array, ArrayError};
 use vx_buffer::ByteBuffer;
-use vx_nested_parts::parts::{Made, both};
 use vx_registry::{ArrayContext, ArraySession, ReadContext, VortexSession};
 use vx_serde::{
     ArrayExt, ArrayNodeFlatBuffer, Recoded, SerializeOptions, SerializedArray, WireError, recode,
 };
+use vx_test_arrays::parts::{Made, both};
 use vx_type_wire::ExtSession;
 use vx_types::{DType, Id, Ids, TypeError};
 

@@ -2,10 +2,10 @@
 
 use std::alloc::Global;
 use vx_arrays::ArrayError;
-use vx_nested_parts::parts::{
+use vx_test_arrays::parts::{
     Made, There, bytes, dicts, extensions, fixed, flags, nulls, numbers, texts,
 };
-use vx_nested_parts::rows::{has_rows, has_slots, takes};
+use vx_test_arrays::rows::{has_rows, has_slots, takes};
 use vx_types::PType;
 
 // Three non-nullable texts.

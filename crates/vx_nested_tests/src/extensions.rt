@@ -2,8 +2,8 @@
 
 use std::alloc::Global;
 use vx_arrays::ArrayError;
-use vx_nested_parts::parts::{Made, There, bytes, extensions, fixed, texts};
-use vx_nested_parts::rows::{has_rows, has_slots, takes};
+use vx_test_arrays::parts::{Made, There, bytes, extensions, fixed, texts};
+use vx_test_arrays::rows::{has_rows, has_slots, takes};
 
 // Two numbers.
 fn numbers(alloc: Global) -> Made {

@@ -4,7 +4,7 @@
 use std::alloc::Global;
 use vx_arrays::{ArrayError, VarBinArray};
 use vx_buffer::{BufferHandle, ByteBuffer};
-use vx_nested_parts::parts::{
+use vx_test_arrays::parts::{
     Made, There, both, bytes, dicts, lists, nulls, one, unions, unknown_bytes, views,
 };
 use vx_types::{DType, Nullability};

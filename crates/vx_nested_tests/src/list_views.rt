@@ -2,8 +2,8 @@
 
 use std::alloc::Global;
 use vx_arrays::{Array, ArrayError, ListViewArray};
-use vx_nested_parts::parts::{AllMade, Made, There, and, both, bytes, nulls, numbers, two, views};
-use vx_nested_parts::rows::{begins_with, has_rows, has_slots, row_refusal, takes};
+use vx_test_arrays::parts::{AllMade, Made, There, and, both, bytes, nulls, numbers, two, views};
+use vx_test_arrays::rows::{begins_with, has_rows, has_slots, row_refusal, takes};
 use vx_types::{DType, Nullability, PType, TypeRef};
 
 // Three numbers.

@@ -2,8 +2,8 @@
 
 use std::alloc::Global;
 use vx_arrays::{ArrayError, ListArray};
-use vx_nested_parts::parts::{Made, There, both, bytes, lists, numbers, texts, two};
-use vx_nested_parts::rows::{has_rows, has_slots, takes};
+use vx_test_arrays::parts::{Made, There, both, bytes, lists, numbers, texts, two};
+use vx_test_arrays::rows::{has_rows, has_slots, takes};
 use vx_types::{DType, Nullability, PType, TypeRef};
 
 // Three numbers.

@@ -2,8 +2,8 @@
 
 use std::alloc::Global;
 use vx_arrays::ArrayError;
-use vx_nested_parts::parts::{Made, There, bytes, fixed, nulls};
-use vx_nested_parts::rows::{has_rows, has_slots, row_refusal, takes};
+use vx_test_arrays::parts::{Made, There, bytes, fixed, nulls};
+use vx_test_arrays::rows::{has_rows, has_slots, row_refusal, takes};
 
 // `len` lists of `size` of these numbers each.
 fn sized(alloc: Global, numbers: &[u8], size: u32, len: usize, there: There) -> Made {

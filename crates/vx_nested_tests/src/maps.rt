@@ -2,10 +2,10 @@
 
 use std::alloc::Global;
 use vx_arrays::ArrayError;
-use vx_nested_parts::parts::{
+use vx_test_arrays::parts::{
     Made, There, bytes, dicts, fixed, lists, maps, one, structs, texts, two, views,
 };
-use vx_nested_parts::rows::{has_rows, has_slots, takes};
+use vx_test_arrays::rows::{has_rows, has_slots, takes};
 
 // Two keys.
 fn keys(alloc: Global) -> Made {

@@ -2,10 +2,10 @@
 
 use std::alloc::Global;
 use vx_arrays::ArrayError;
-use vx_nested_parts::parts::{
+use vx_test_arrays::parts::{
     AllMade, Made, There, and, bytes, flags, none, nulls, one, structs, texts, two,
 };
-use vx_nested_parts::rows::{has_rows, has_slots, takes};
+use vx_test_arrays::rows::{has_rows, has_slots, takes};
 
 // Three numbers.
 fn numbers(alloc: Global) -> Made {

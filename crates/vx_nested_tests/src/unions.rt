@@ -2,10 +2,8 @@
 
 use std::alloc::Global;
 use vx_arrays::ArrayError;
-use vx_nested_parts::parts::{
-    AllMade, Made, There, and, bytes, flags, numbers, texts, two, unions,
-};
-use vx_nested_parts::rows::{has_rows, has_slots, takes};
+use vx_test_arrays::parts::{AllMade, Made, There, and, bytes, flags, numbers, texts, two, unions};
+use vx_test_arrays::rows::{has_rows, has_slots, takes};
 use vx_types::PType;
 
 // Four numbers.

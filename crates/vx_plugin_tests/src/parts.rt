@@ -6,11 +6,11 @@ use crate::versioned::Versioned;
 use std::alloc::Global;
 use vx_arrays::{Array, Arrays, ExtensionArray, PrimitiveArray, new_foreign_array};
 use vx_buffer::{Alignment, BufferHandle, BufferHandles, ByteBuffer, ByteBuffers};
-use vx_nested_parts::parts::both;
 use vx_registry::{
     ArrayContext, ArrayPlugin, ArraySession, PluginEntry, ReadContext, VortexSession,
 };
 use vx_serde::{ArrayExt, SerializeOptions, SerializedArray, WireError};
+use vx_test_arrays::parts::both;
 use vx_type_wire::{ExtPlugin, ExtSession};
 use vx_types::{Blob, DType, ExtDType, Id, Ids, Nullability, PType};
 

@@ -6,9 +6,9 @@ use crate::parts::{
 use std::alloc::Global;
 use vx_arrays::Array;
 use vx_buffer::ByteBuffer;
-use vx_nested_parts::parts::both;
 use vx_registry::{ArrayContext, VortexSession};
 use vx_serde::WireError;
+use vx_test_arrays::parts::both;
 
 // Numbers for the tests, named by how many there are.
 const TWO: [i32; 2] = [1, 2];

@@ -9,12 +9,12 @@ use crate::program::{
 use std::alloc::{AllocError, Global};
 use vx_arrays::{Array, ArrayError, PrimitiveArray};
 use vx_buffer::{BufferHandle, ByteBuffer};
-use vx_nested_parts::parts::{
-    Made, There, both, bytes, dicts, extensions, flags, lists, nulls, structs, two, unions, views,
-};
 use vx_registry::ArrayContext;
 use vx_serde::{SerializedArray, WireError};
 use vx_serde_tests::files::{BLOB, EXTENSION_TYPE, IDS, NULL_TYPE, PADDED_BLOB, TYPE};
+use vx_test_arrays::parts::{
+    Made, There, both, bytes, dicts, extensions, flags, lists, nulls, structs, two, unions, views,
+};
 use vx_type_wire::DTypeExt;
 use vx_types::{DType, Ids, Nullability, PType};
 

@@ -4,12 +4,12 @@ use crate::program::{Files, saves_the_same};
 use std::alloc::{AllocError, Global};
 use vx_arrays::Array;
 use vx_buffer::ByteBuffer;
-use vx_nested_parts::parts::{
+use vx_registry::{ArrayContext, ArraySession, VortexSession};
+use vx_serde::{ArrayExt, SerializeOptions, WireError};
+use vx_test_arrays::parts::{
     AllMade, Made, There, and, bytes, dicts, fixed, flags, lists, maps, none, nulls, numbers,
     structs, texts, two, unions, views,
 };
-use vx_registry::{ArrayContext, ArraySession, VortexSession};
-use vx_serde::{ArrayExt, SerializeOptions, WireError};
 use vx_type_wire::{DTypeExt, ExtSession};
 use vx_types::{DType, Ids, PType};
 

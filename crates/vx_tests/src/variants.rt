@@ -4,8 +4,8 @@ use crate::nested::{blob_of, lines_of};
 use crate::program::{Files, refuses, saves_the_same};
 use std::alloc::Global;
 use vx_arrays::Array;
-use vx_nested_parts::parts::{Made, There, extensions, lists, numbers, shredded, unknown_variants};
 use vx_registry::ArrayContext;
+use vx_test_arrays::parts::{Made, There, extensions, lists, numbers, shredded, unknown_variants};
 use vx_type_wire::DTypeExt;
 use vx_types::{DType, Ids, PType};
 

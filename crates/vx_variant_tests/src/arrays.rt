@@ -2,11 +2,11 @@
 
 use std::alloc::Global;
 use vx_arrays::{Array, ArrayError, RowValue};
-use vx_nested_parts::parts::{
+use vx_test_arrays::parts::{
     Made, There, and, bytes, extensions, fixed, numbers, one, shredded, structs, texts, two,
     unknown_variants,
 };
-use vx_nested_parts::rows::{begins_with, has_rows, has_slots, takes};
+use vx_test_arrays::rows::{begins_with, has_rows, has_slots, takes};
 use vx_types::PType;
 
 // The numbers 1 and 2, of which the bits say which are valid.

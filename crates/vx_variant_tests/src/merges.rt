@@ -10,8 +10,8 @@ use crate::scalars::{
 use crate::texts::is_text;
 use std::alloc::Global;
 use vx_arrays::{ArrayError, merge_typed_scalar_as_variant};
-use vx_nested_parts::parts::both;
 use vx_scalars::Scalar;
+use vx_test_arrays::parts::both;
 use vx_types::{DType, Nullability, TypeError};
 
 // Whether a scalar may be a fallback.

@@ -1,8 +1,8 @@
 //! The scalars that are merged.
 
 use std::alloc::Global;
-use vx_nested_parts::parts::both;
 use vx_scalars::{Scalar, ScalarValue, Values, VariantRef};
+use vx_test_arrays::parts::both;
 use vx_types::{
     Blob, DType, DTypes, ExtDType, Id, Name, Names, Nullability, PType, PValue, StructFields,
     TypeError, TypeRef,

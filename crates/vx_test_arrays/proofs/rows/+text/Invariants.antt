@@ -2,7 +2,7 @@ use Rattle.std.proofs.Common.{◌+◌, ◌*◌}
 use Rattle.vx_trees.specs.Rose.{roses_of}
 use Rattle.vx_trees.specs.Walks.{nodes, nodes_of}
 use Rattle.vx_rows.specs.Plain.{plain_value, plain_values}
-use Rattle.vx_nested_parts.proofs.rows.+text.Given as goal
+use Rattle.vx_test_arrays.proofs.rows.+text.Given as goal
 
 abbrev pub decreases-text_of : goal.decreases-text_of
 decreases-text_of l = 2 * nodes (plain_value l.value.now)

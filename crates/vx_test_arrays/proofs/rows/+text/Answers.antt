@@ -1,8 +1,8 @@
 use Rattle.std.proofs.Common.{ap, arith}
 use Rattle.vx_trees.specs.Walks.{nodes}
 use Rattle.vx_types.specs.Value.{Value}
-use Rattle.vx_nested_parts.proofs.RowSizes.{smaller_value}
-use Rattle.vx_nested_parts.proofs.rows.+text.Goals as goal
+use Rattle.vx_test_arrays.proofs.RowSizes.{smaller_value}
+use Rattle.vx_test_arrays.proofs.rows.+text.Goals as goal
 
 pub texts_of-text_of-requires : goal.texts_of-text_of-requires
 texts_of-text_of-requires t c = (omega (arith, smaller_value c.args.values.now c.loop-i.i c.index-values-i.result c.loop-i-test.true c.index-values-i.is), tt)
