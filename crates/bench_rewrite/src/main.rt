@@ -11,7 +11,7 @@ use bench_timing::print_least;
 use std::rt::Files;
 use std::time::CpuClock;
 use std::{env, fs};
-use vx_flat::{FlatBuffer, read_value, write_value};
+use vx_flat::{FlatBuffer, TableValue, read_value, write_value};
 use vx_serde::ArrayKind;
 
 fn rewrite<R: Files + AllocGlobal + Print>(rt: &R, from: &str, to: &str) -> Result<()> {
@@ -30,13 +30,23 @@ fn time<R: CpuClock + Files + AllocGlobal + Print>(rt: &R, from: &str, rounds: u
         Ok(read_value(rt.alloc(), &message, &ArrayKind)?)
     })?;
     let value = read_value(rt.alloc(), &message, &ArrayKind)?;
+    time_writing(rt, &value, rounds)
+}
+
+fn time_writing<R: CpuClock + AllocGlobal + Print>(
+    rt: &R,
+    value: &TableValue,
+    rounds: u32,
+) -> Result<()>
+    requires { IsOf array_schema (value_of value.now) }
+{
     print_least(
         rt,
         "write",
         rounds,
         || -> Result<FlatBuffer>
-            requires { IsOf array_schema (value_of value) }
-        { Ok(write_value(rt.alloc(), &ArrayKind, &value)?) },
+            requires { IsOf array_schema (value_of value.now) }
+        { Ok(write_value(rt.alloc(), &ArrayKind, value)?) },
     )
 }
 
