@@ -8,4 +8,6 @@ pub mod odd;
 mod parts;
 #[cfg(test)]
 mod plugged;
+#[cfg(test)]
+mod refused;
 pub mod versioned;

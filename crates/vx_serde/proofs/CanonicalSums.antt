@@ -10,12 +10,13 @@ use Rattle.vx_scalar_wire.proofs.LawsStats.{shown_kept_in}
 use Rattle.vx_array_tree.specs.Canon.{stats_written, each_stats_written}
 use Rattle.vx_array_tree.specs.Normal.{IsNormal, IsNormalBy, IsNormalForeign, IsNormalNode}
 use Rattle.vx_array_tree.specs.Tree.{Tree, Trees, Head}
+use Rattle.vx_wire_tree.specs.Codec.{IsLawful}
 use Rattle.vx_wire_tree.specs.Matches.{Matches, AllMatch, IsNodeBy, IsRaw, AreRaw}
 use Rattle.vx_wire_tree.specs.Session.{SessionMeaning, Reader, shipped, revised, plugin, IsShipped, IsShippedReader}
 use Rattle.vx_wire_tree.specs.DecodesTo.{DecodesTo}
 use Rattle.vx_wire_tree.specs.Wire.{WireHead, Wire, Wires}
 use Rattle.vx_wire_tree.specs.Written.{canon}
-use Rattle.vx_wire_tree.proofs.Laws.{canon_written}
+use Rattle.vx_wire_tree.proofs.Laws.{canon_written, matched_normal}
 use Rattle.vx_encodings.specs.Messages.{codec}
 use Rattle.vx_serde.specs.Sums.{canonical_head, sums_canonical, each_sums_canonical}
 
@@ -63,5 +64,7 @@ module _ (s : SessionMeaning) (ok : IsShipped s) where
 
   -- Of an array that a wire tree decodes to, nothing is lost where it is read back, and a sum that is no number becomes
   -- the NaN of its width.
-  pub told_sums : (w : Wire) (d : Typ) (n : ℕ) (t : Tree) → DecodesTo codec s w d n t → canon codec s t ≡ sums_canonical t
-  told_sums w d n t x = canon_written codec s t x.sound (x.normal ok) ∙ matched_sums w t x.matched (x.normal ok)
+  pub told_sums : IsLawful codec s → (w : Wire) (d : Typ) (n : ℕ) (t : Tree) → DecodesTo codec s w d n t → canon codec s t ≡ sums_canonical t
+  told_sums law w d n t x =
+      let normal = matched_normal codec s ok law w t x.matched in
+      canon_written codec s t x.sound normal ∙ matched_sums w t x.matched normal

@@ -28,6 +28,7 @@ mod NeverCaused
 mod PadsAlign
 mod AlignedBlob
 mod WrittenOwn
+mod Returning
 mod CanonicalSums
 mod Serializations
 mod ArrayNodes

@@ -75,7 +75,7 @@ module _ (asked : Request) (ok : IsShipped asked.session) (law : IsLawful codec 
   never_below x h =
       let same = (carried_once asked.blob asked.ids h.wire spelled.wire h.carried spelled.carried).tree in
       let P : Wire → Type 0 = λ z. RefusesWire asked.session x z asked.dtype asked.len in
-      never_caused asked.session ok law x spelled.wire asked.dtype asked.len t spelled.told (subst P same h.cause)
+      never_caused asked.session law x spelled.wire asked.dtype asked.len t spelled.told (subst P same h.cause)
 
   -- The blob is opened.
   pub never_closed : KeepsReaderLimits asked.options asked.blob → (x : WireError) → RefusesOpening (message_limits asked.options) x asked.blob → x ≡ OutOfMemory
@@ -117,6 +117,6 @@ memory_at_tree asked ok law e w carried can cause = never_below asked ok law can
 -- and none of the array.
 pub memory_at_array : (asked : Request) → IsShipped asked.session → IsLawful codec asked.session → IsPaired asked.session → (e : WireError) (t : Tree) → IsSpelled asked t → CanRecode asked → RefusesArray asked.session t asked.context asked.options e → e ≡ OutOfMemory
 memory_at_array asked ok law paired e t spelled can cause =
-    let same : t ≡ can.array = spelled_once asked.blob asked.ids asked.dtype asked.len asked.session t can.array ok law spelled can.spelled in
+    let same : t ≡ can.array = spelled_once asked.blob asked.ids asked.dtype asked.len asked.session t can.array law spelled can.spelled in
     let P : Tree → Type 0 = λ z. RefusesArray asked.session z asked.context asked.options e in
     never_unwritten asked ok law can.array can.spelled paired can.writer_limits can.grows e (subst P same cause)

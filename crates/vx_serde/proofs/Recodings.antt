@@ -19,7 +19,7 @@ use Rattle.vx_wire_tree.specs.Taken.{Unwritten, unregistered, unserializable, un
 use Rattle.vx_wire_tree.specs.DecodesTo.{DecodesTo}
 use Rattle.vx_wire_tree.specs.Wire.{Wire, ids_in, buffers_in}
 use Rattle.vx_wire_tree.specs.Written.{wire, canon}
-use Rattle.vx_wire_tree.proofs.Laws.{matched_written, canon_wire, canon_written, canon_grown, never_untaken, no_plugin_refuses}
+use Rattle.vx_wire_tree.proofs.Laws.{matched_written, canon_wire, canon_written, canon_grown, never_untaken, no_plugin_refuses, matched_normal}
 use Rattle.vx_encodings.specs.Messages.{codec}
 use Rattle.vx_serde.specs.declared.options.SerializeOptions.{SerializeOptions}
 use Rattle.vx_serialized.specs.declared.error.WireError.{WireError}
@@ -114,7 +114,7 @@ twice asked made ok law spelled blob again =
     let o = asked.options in
     let t = made.array in
     let sound = spelled.told.sound in
-    let normal = spelled.told.normal ok in
+    let normal = matched_normal codec s ok law spelled.wire t spelled.told.matched in
     let own : wire codec s (canon codec s t) ≡ wire codec s t = canon_wire codec s law.stats t sound normal in
     let by : Wire → List ℕ = λ w. blob_bytes (with_ids asked.context.ids (ids_in w)) o w in
     let P : Wire → Type 0 = λ w. IsWritable (with_ids asked.context.ids (ids_in w)) o w in
@@ -146,9 +146,9 @@ faithful asked made ok law paired recoded =
     (spelled_again asked.session ok law paired asked.blob asked.ids asked.dtype asked.len made.array asked.context made.context asked.options recoded.spelled blob.storable blob.grown_is blob.limits) in
     record {
       own = own;
-      the_one = λ other x. spelled_once asked.blob asked.ids asked.dtype asked.len asked.session other made.array ok law x recoded.spelled;
+      the_one = λ other x. spelled_once asked.blob asked.ids asked.dtype asked.len asked.session other made.array law x recoded.spelled;
       again = again;
-      sums = told_sums asked.session ok recoded.spelled.wire asked.dtype asked.len made.array recoded.spelled.told;
+      sums = told_sums asked.session ok law recoded.spelled.wire asked.dtype asked.len made.array recoded.spelled.told;
       twice = twice asked made ok law recoded.spelled blob again;
     }
 
@@ -168,7 +168,7 @@ left-written asked law t after spelled keeps own = record {
   some = inr (record { array = t; spelled = spelled; kept = keeps });
   kept = λ ok array other.
       let P : Tree → Type 0 = λ z. KeepsContext (ids_in (wire codec asked.session z)) asked.context after in
-      let same : array ≡ t = spelled_once asked.blob asked.ids asked.dtype asked.len asked.session array t ok law other spelled in
+      let same : array ≡ t = spelled_once asked.blob asked.ids asked.dtype asked.len asked.session array t law other spelled in
       subst P (sym same) (own ok);
 }
 

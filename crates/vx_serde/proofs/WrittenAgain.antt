@@ -5,7 +5,6 @@ use Rattle.vx_trees.specs.Rose.{node, end, more, label}
 use Rattle.vx_trees.specs.Everywhere.{EverywhereBelow}
 use Rattle.vx_types.specs.Typ.{Typ}
 use Rattle.vx_buffer.specs.Buffer.{Buffer}
-use Rattle.vx_array_tree.specs.Normal.{IsNormal}
 use Rattle.vx_array_tree.specs.Table.{buffers_of}
 use Rattle.vx_array_tree.specs.Tree.{Tree, Trees}
 use Rattle.vx_wire_tree.specs.Codec.{Codec, IsLawful}
@@ -15,11 +14,13 @@ use Rattle.vx_wire_tree.specs.Session.{SessionMeaning, IsShipped, IsPaired}
 use Rattle.vx_wire_tree.specs.DecodesTo.{DecodesTo}
 use Rattle.vx_wire_tree.specs.Wire.{IsWhole, IsWholeNode, buffers_in, ids_in}
 use Rattle.vx_wire_tree.specs.Written.{written_id, wire, wires, canon}
-use Rattle.vx_wire_tree.proofs.Laws.{told_again, canon_normal, matched_types, matched_written, matched_unread, returned}
+use Rattle.vx_wire_tree.proofs.Laws.{told_again, matched_types, matched_written, matched_unread, returned}
 use Rattle.vx_encodings.specs.Messages.{codec}
 use Rattle.vx_serde.specs.declared.options.SerializeOptions.{SerializeOptions}
 use Rattle.vx_serde.specs.Limits.{most_levels}
 use Rattle.vx_serde.specs.Placing.{descriptors_from}
+use Rattle.vx_buffer.specs.Joined.{joined}
+use Rattle.vx_serde.proofs.OneArray.{spelled_once}
 use Rattle.vx_serde.specs.Serializing.{IsSerialized, ReturnsWhole, IsSpelledAgain, IsReadAgain}
 use Rattle.vx_serde.specs.Taking.{as_written}
 use Rattle.vx_serde.specs.Written.{blob_bytes, message_bytes, IsWritable}
@@ -96,13 +97,13 @@ returned_again s law paired t old new options x grew fit =
       dtype = refl;
       len = refl;
       sound = x.own.sound;
-      normal = λ ok. subst (λ z. IsNormal z) x.own.own (canon_normal codec s t x.own.sound);
     })
 
 -- So do the bytes that are serialized.
 pub serialized_again : (s : SessionMeaning) → IsLawful codec s → IsPaired s → (t : Tree) (old new : Context) (options : SerializeOptions) (bs : List Buffer) → IsSerialized s t options old new bs → ReturnsWhole s options t → IsSpelledAgain s t new bs
 serialized_again s law paired t old new options bs x r =
-    subst (λ z. Spells z new.ids (label t).dtype (label t).len s t) (sym x.blob.written) (returned_again s law paired t old new options r x.blob.grown_is x.blob.limits)
+    let again = subst (λ z. Spells z new.ids (label t).dtype (label t).len s t) (sym x.blob.written) (returned_again s law paired t old new options r x.blob.grown_is x.blob.limits) in
+    record { spelled = again; the_one = λ other y. spelled_once (joined bs) new.ids (label t).dtype (label t).len s other t law y again }
 
 -- What shipped encodings write of a sound array spells what is read back of it, where each of its nodes is written, the
 -- types in it are known, its statistics can be stored, and nothing reads its topmost foreign nodes.

@@ -19,7 +19,7 @@ use Rattle.vx_serde.proofs.WiredNodes.{wired-levels}
 use Rattle.vx_serde.proofs.WrittenAgain.{read_back}
 
 -- An array that is serialized is written within the levels.
-levels_within : (s : SessionMeaning) (t : Tree) (o : SerializeOptions) (before after : Context) (bs : List Buffer) → IsSerialized s t o before after bs → levels (as_written s o t) ≤ most_levels o
+pub levels_within : (s : SessionMeaning) (t : Tree) (o : SerializeOptions) (before after : Context) (bs : List Buffer) → IsSerialized s t o before after bs → levels (as_written s o t) ≤ most_levels o
 levels_within s t o before after bs x = omega (arith, x.blob.limits.writable.tree.nested, wired-levels s (as_written s o t))
 
 -- It is written unchanged.

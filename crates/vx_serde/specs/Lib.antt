@@ -13,6 +13,7 @@ pub mod Request
 pub mod Causes
 pub mod Aligned
 pub mod Serializing
+pub mod Returning
 pub mod ArrayNode
 pub mod Sums
 pub mod Recoding

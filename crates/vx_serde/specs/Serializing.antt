@@ -42,9 +42,11 @@ pub record ReturnsWhole (s : SessionMeaning) (options : SerializeOptions) (array
   pub own : IsOwnCanon codec s array
   pub returns : Returns codec s (most_levels options) array
 
--- The bytes spell the array itself with the identifiers of the context after it.
-abbrev pub IsSpelledAgain : SessionMeaning → Tree → Context → List Buffer → Type 0
-IsSpelledAgain s array after buffers = Spells (joined buffers) after.ids (label array).dtype (label array).len s array
+-- The bytes spell the array itself with the identifiers of the context after it, and no other array of its type and
+-- length.
+pub record IsSpelledAgain (s : SessionMeaning) (array : Tree) (after : Context) (buffers : List Buffer) : Type 0 where
+  pub spelled : Spells (joined buffers) after.ids (label array).dtype (label array).len s array
+  pub the_one : (other : Tree) → Spells (joined buffers) after.ids (label array).dtype (label array).len s other → other ≡ array
 
 -- An array is sound, the types in its metadata are known, and nothing reads its topmost foreign nodes. What shipped
 -- encodings write of such an array is read again.

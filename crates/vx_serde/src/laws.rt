@@ -11,9 +11,12 @@ ghost use Rattle.vx_wire_tree.specs.Wire.{Wire};
 ghost use Rattle.vx_encodings.specs.Messages.{codec};
 ghost use Rattle.vx_serialized.specs.Blob.{Carries};
 ghost use Rattle.vx_serde.specs.Spells.{Spells, blob_of, KeepsWriterLimits};
+ghost use Rattle.vx_serde.specs.Returning.{IsReturnable};
+ghost use Rattle.vx_serde.specs.Serializing.{IsSerialized, ReturnsWhole};
 ghost use Rattle.vx_wire_tree.specs.ReadBack.{HasStorableStats};
 ghost use Rattle.vx_wire_tree.specs.Written.{canon};
 ghost use Rattle.vx_types.specs.Typ.{Typ};
+ghost use Rattle.vx_array_tree.specs.Normal.{IsNormal};
 ghost use Rattle.vx_array_tree.specs.Tree.{Tree};
 ghost use Rattle.vx_wire_tree.specs.Context.{Context, grown};
 ghost use Rattle.vx_wire_tree.specs.Session.{SessionMeaning, IsShipped, IsPaired};
@@ -26,7 +29,13 @@ pub fn one_tree()
 /// With one list of identifiers and under one session, a blob spells at most one array at a type and a length.
 pub fn one_array()
     ensures { (blob : List ℕ) (ids : List (List ℕ)) (d : Typ) (n : ℕ) (s : SessionMeaning) (t u : Tree)
-        → IsShipped s → IsLawful codec s → Spells blob ids d n s t → Spells blob ids d n s u → t ≡ u }
+        → IsLawful codec s → Spells blob ids d n s t → Spells blob ids d n s u → t ≡ u }
+{}
+
+/// With shipped encodings alone, an array that a blob spells is in the normal form. A plugin may build any array.
+pub fn spelled_is_normal()
+    ensures { (blob : List ℕ) (ids : List (List ℕ)) (d : Typ) (n : ℕ) (s : SessionMeaning) (t : Tree)
+        → IsShipped s → IsLawful codec s → Spells blob ids d n s t → IsNormal t }
 {}
 
 /// What is written of an array that was read, whose statistics can be stored, under limits that hold, spells what is
@@ -35,6 +44,14 @@ pub fn written_is_spelled()
     ensures { (s : SessionMeaning) (blob : List ℕ) (ids : List (List ℕ)) (d : Typ) (n : ℕ) (t : Tree) (old new : Context) (options : SerializeOptions)
         → IsShipped s → IsLawful codec s → IsPaired s → Spells blob ids d n s t → HasStorableStats codec t → grown codec s old t ≡ Some new → KeepsWriterLimits s t old options
         → Spells (blob_of s t old options) new.ids d n s (canon codec s t) }
+{}
+
+/// An array that was serialized is read again as itself, where it and each array that plugins gave for it are their own
+/// canons, in which types are known, none of these holds a foreign node, and each written identifier is read by what
+/// wrote it.
+pub fn serialized_returns()
+    ensures { (s : SessionMeaning) (t : Tree) (options : SerializeOptions) (before after : Context) (bs : List Buffer)
+        → IsSerialized s t options before after bs → IsReturnable s options t → ReturnsWhole s options t }
 {}
 
 /// Where padding is asked for, each buffer of a blob begins at a multiple of its alignment, counted with the position

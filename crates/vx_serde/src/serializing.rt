@@ -1,6 +1,6 @@
 //! Writing an array as a blob.
 
-ghost use Rattle.std.specs.Prelude.{IfOk, IfErr};
+ghost use Rattle.std.specs.Prelude.{◌≡◌, IfOk, IfErr};
 ghost use Rattle.vx_wire_tree.specs.ReadBack.{IsWritten};
 ghost use Rattle.vx_wire_tree.specs.Session.{IsShipped};
 ghost use Rattle.vx_wire_tree.specs.Wire.{ids_in};
@@ -53,12 +53,16 @@ impl ArrayExt for Array {
         options: &SerializeOptions,
     ) -> Result<ByteBuffers, WireError>
         ensures made { let s = session_meaning (λ b. means (b.vtable, b.value)) (λ b. accepted (b.vtable, b.value)) session.now in IfOk result (λ buffers. IsSerialized s self.now options.now ctx.old ctx.new buffers) }
-        // What is written of an array that returns spells that array, whatever encodings and plugins wrote.
+        // What is written of an array that returns is read again as that array and as no other, whatever encodings and
+        // plugins wrote.
         ensures returned { let s = session_meaning (λ b. means (b.vtable, b.value)) (λ b. accepted (b.vtable, b.value)) session.now in
             IfOk result (λ buffers. ReturnsWhole s options.now self.now → IsSpelledAgain s self.now ctx.new buffers) }
         // With shipped encodings alone, what is written of an array spells what is read back of it.
         ensures read_back { let s = session_meaning (λ b. means (b.vtable, b.value)) (λ b. accepted (b.vtable, b.value)) session.now in
             IsShipped s → IfOk result (λ buffers. IsReadAgain s self.now → IsSpelledBack s self.now ctx.new buffers) }
+        // With shipped encodings alone, the array is written as it stands.
+        ensures unchanged { let s = session_meaning (λ b. means (b.vtable, b.value)) (λ b. accepted (b.vtable, b.value)) session.now in
+            IsShipped s → IfOk result (λ _. as_written s options.now self.now ≡ self.now) }
         ensures left { let s = session_meaning (λ b. means (b.vtable, b.value)) (λ b. accepted (b.vtable, b.value)) session.now in KeepsContext (ids_in (wire codec s (as_written s options.now self.now))) ctx.old ctx.new }
         // With shipped encodings alone, these are identifiers of the array itself.
         ensures own { let s = session_meaning (λ b. means (b.vtable, b.value)) (λ b. accepted (b.vtable, b.value)) session.now in IsShipped s → KeepsContext (ids_in (wire codec s self.now)) ctx.old ctx.new }

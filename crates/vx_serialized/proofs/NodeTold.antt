@@ -13,7 +13,6 @@ use Rattle.vx_types.specs.Known.{ExtMeaning}
 use Rattle.vx_types.specs.Typ.{Typ}
 use Rattle.vx_types.specs.Seen.{typ}
 use Rattle.vx_array_tree.specs.Metadata.{Metadata}
-use Rattle.vx_array_tree.specs.Normal.{IsNormalNode}
 use Rattle.vx_array_tree.specs.Place.{Place}
 use Rattle.vx_array_tree.specs.Sound.{IsSound, IsSoundNode}
 use Rattle.vx_array_tree.specs.Encoding as Encodings
@@ -79,11 +78,9 @@ told-snoc s ws ps i w p us vs u h k f g x e =
     let M : Wire → Type 0 = λ z. Matches codec s z u in
     let A : Trees → Type 0 = λ z. AllMatch codec s (roses_of (take i ws)) z in
     let S : Trees → Type 0 = λ z. EverywhereBelow IsSoundNode z in
-    let N : Trees → Type 0 = λ z. EverywhereBelow IsNormalNode z in
     rw (next, add-one i) (record {
       matched = all_match-snoc_suc s ws i w ts u h (subst A back k.matched) (subst M f x.matched);
       sound = everywhere_below-snoc IsSoundNode ts (ts ++ u ∷ []) u (subst S back k.sound) x.sound refl;
-      normal = λ ok. everywhere_below-snoc IsNormalNode ts (ts ++ u ∷ []) u (subst N back (k.normal ok)) (x.normal ok) refl;
       placed = places-snoc_suc ts u ps i p (ap (λ z. places z) (sym back) ∙ k.placed) g x.dtype x.len;
     })
 

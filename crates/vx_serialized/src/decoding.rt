@@ -7,7 +7,7 @@ ghost use Rattle.vx_scalars.specs.Stats.{FitStats};
 ghost use Rattle.vx_array_tree.specs.Tree.{Tree};
 ghost use Rattle.vx_type_wire.specs.Borrowed.{borrowed_meaning};
 ghost use Rattle.vx_type_wire.specs.Session.{ext_meaning};
-ghost use Rattle.vx_wire_tree.specs.Session.{IsShipped, IsPaired};
+ghost use Rattle.vx_wire_tree.specs.Session.{IsPaired};
 ghost use Rattle.vx_wire_tree.specs.Steps.{IsToldBy};
 ghost use Rattle.vx_wire_tree.specs.DecodesTo.{DecodesTo};
 ghost use Rattle.vx_wire_tree.specs.Wire.{all_present};
@@ -266,13 +266,12 @@ impl<'a> SerializedNode<'a> {
         ids: &ReadContext,
         session: &VortexSession,
     ) -> Result<Array, WireError>
-        // The array matches the node's wire tree and is of this type and length; it is sound, and normal where no
-        // plugin reads or writes.
+        // The array matches the node's wire tree and is of this type and length, and it is sound.
         ensures told { let s = session_meaning (λ b. means (b.vtable, b.value)) (λ b. accepted (b.vtable, b.value)) session.now in
             IfOk result (λ t. DecodesTo codec s (wire_in ids.now self.now) (typ dtype.now) len t) }
-        // With shipped encodings alone it is the only one; and where there is one, it is returned, or `OutOfMemory`.
+        // It is the only one; and where there is one, it is returned, or `OutOfMemory`.
         ensures one { let s = session_meaning (λ b. means (b.vtable, b.value)) (λ b. accepted (b.vtable, b.value)) session.now in
-            IsShipped s → (t : Tree) → DecodesTo codec s (wire_in ids.now self.now) (typ dtype.now) len t
+            (t : Tree) → DecodesTo codec s (wire_in ids.now self.now) (typ dtype.now) len t
             → IfOk result (λ u. u ≡ t) × IfErr result (λ e. e ≡ WireError.OutOfMemory) }
         ensures paired { let s = session_meaning (λ b. means (b.vtable, b.value)) (λ b. accepted (b.vtable, b.value)) session.now in
             OnOk result (IsPaired s) }
@@ -304,7 +303,7 @@ impl SerializedArray {
         ensures told { let s = session_meaning (λ b. means (b.vtable, b.value)) (λ b. accepted (b.vtable, b.value)) session.now in
             IfOk result (λ t. DecodesTo codec s (wire_in ids.now self.now) (typ dtype.now) len t) }
         ensures one { let s = session_meaning (λ b. means (b.vtable, b.value)) (λ b. accepted (b.vtable, b.value)) session.now in
-            IsShipped s → (t : Tree) → DecodesTo codec s (wire_in ids.now self.now) (typ dtype.now) len t
+            (t : Tree) → DecodesTo codec s (wire_in ids.now self.now) (typ dtype.now) len t
             → IfOk result (λ u. u ≡ t) × IfErr result (λ e. e ≡ WireError.OutOfMemory) }
         ensures paired { let s = session_meaning (λ b. means (b.vtable, b.value)) (λ b. accepted (b.vtable, b.value)) session.now in
             OnOk result (IsPaired s) }

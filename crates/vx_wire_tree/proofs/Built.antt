@@ -39,19 +39,19 @@ module _ (c : Codec) (s : SessionMeaning) (law : IsLawful c s) where
       let told = with_stats y.stats built in
       let fit = law.stats.shown_fit d w.stats y.stats y.shown in
       let same_sound : IsSound built = subst (λ (z : Tree). IsSound z) x.tree_is sound in
+      let native : IsNative x.body = subst (λ f. IsNativeEncoding f) (sym (body_encoding e x.value bs x.body x.body_is)) (law.messages id e r.encoding).native in
       let m : IsEncodedNode c s e w told (λ us. AllMatch c s ws us) = record {
         encoding = body_encoding e x.value bs x.body x.body_is;
         metadata = subst (λ (v : Metadata). IsMetadata c s.ext e d w.metadata v) (sym (own_metadata e d n x.value bs x.body ts over)) x.metadata;
         buffers = b ∙ ap (λ zs. all_present zs) (sym (body_buffers e x.value bs x.body x.body_is));
         stats = y.shown;
+        normal = normal_by x.body (label told) ts native (built_normal e d n x.value (count ts) bs x.body (places ts) x.body_is plan);
         children = k.matched;
       } in
-      let native : IsNative x.body = subst (λ f. IsNativeEncoding f) (sym (body_encoding e x.value bs x.body x.body_is)) (law.messages id e r.encoding).native in
       let all : DecodesTo c s (node w ws) d n told = record {
         matched = (id, i, node_by c s (s.reader id) e id w ws told (λ us. AllMatch c s ws us) r i m);
         dtype = refl;
         len = refl;
         sound = stats_sound y.stats built same_sound fit;
-        normal = λ ok. (normal_by x.body (label told) ts native (built_normal e d n x.value (count ts) bs x.body (places ts) x.body_is plan), k.normal ok);
       } in
       subst (λ (z : Tree). DecodesTo c s (node w ws) d n z) (sym (y.tree_is ∙ ap (λ (z : Tree). with_stats y.stats z) x.tree_is)) all

@@ -68,9 +68,8 @@ all_kept ws d n i us h k = subst (λ z. AreKeptAs (roses_of z) d n us) (take_all
 -- it.
 pub kept_decodes : (c : Codec) (s : SessionMeaning) (id : List ℕ) (w : Wire) (d : Typ) (n : ℕ) (t : Tree) → (label w).id ≡ Some id → s.reader id ≡ None → IsTrue s.ext.unknown → IsKeptAs w d n t → DecodesTo c s w d n t
 kept_decodes c s id (node w ws) d n t i r allowed k = record {
-  matched = (id, i, subst (λ z. IsNodeBy c s z w ws t (λ us. AllMatch c s ws us)) (sym r) (allowed, k.raw));
+  matched = (id, i, subst (λ z. IsNodeBy c s z w ws t (λ us. AllMatch c s ws us)) (sym r) (allowed, k.raw, k.normal));
   dtype = k.place.dtype;
   len = k.place.len;
   sound = k.sound;
-  normal = λ _. k.normal;
 }

@@ -91,7 +91,19 @@ module _ (c : Codec) (s : SessionMeaning) where
   pub matched_whole : (w : Wire) (t : Tree) → Matches c s w t → IsWhole w
   matched_whole w t m = NeverRefused.whole c s w t m
 
+  -- A wire tree decodes to at most one array of a type and a length.
+  pub one_tree : IsLawful c s → (w : Wire) (d : Typ) (n : ℕ) (t u : Tree) → DecodesTo c s w d n t → DecodesTo c s w d n u → t ≡ u
+  one_tree law w d n t u x y = Unique.one_tree c s law w t u x.matched y.matched x.sound y.sound (x.dtype ∙ sym y.dtype) (x.len ∙ sym y.len)
+
+  -- Where it decodes to one, no cause of a refusal holds.
+  pub never_refused : IsLawful c s → (r : Refusal) (w : Wire) (d : Typ) (n : ℕ) (t : Tree) → DecodesTo c s w d n t → RefusesTree r c s w d n → ⊥
+  never_refused law r w d n t x k = NeverRefused.never_refused c s law r w d n t x k
+
   module _ (ok : IsShipped s) where
+    -- An array that matches a wire tree is in the normal form throughout.
+    pub matched_normal : IsLawful c s → (w : Wire) (t : Tree) → Matches c s w t → IsNormal t
+    matched_normal law w t m = Unique.matched_normal c s law ok w t m
+
     -- The types in the metadata of an array that matches a wire tree are known.
     pub matched_types : (w : Wire) (t : Tree) → Matches c s w t → KnowsTypes s.ext t
     matched_types w t m = Matched.matched_types c s ok w t m
@@ -104,15 +116,6 @@ module _ (c : Codec) (s : SessionMeaning) where
       pub matched_unread : (w : Wire) (t : Tree) → Matches c s w t → IsUnread s t
       matched_unread w t m = Matched.matched_unread c s ok law w t m
 
-      -- A wire tree decodes to at most one array of a type and a length.
-      pub one_tree : (w : Wire) (d : Typ) (n : ℕ) (t u : Tree) → DecodesTo c s w d n t → DecodesTo c s w d n u → t ≡ u
-      one_tree w d n t u x y =
-          Unique.one_tree c s law ok w t u x.matched y.matched x.sound y.sound (x.normal ok) (y.normal ok) (x.dtype ∙ sym y.dtype) (x.len ∙ sym y.len)
-
-      -- Where it decodes to one, no cause of a refusal holds.
-      pub never_refused : (r : Refusal) (w : Wire) (d : Typ) (n : ℕ) (t : Tree) → DecodesTo c s w d n t → RefusesTree r c s w d n → ⊥
-      never_refused r w d n t x k = NeverRefused.never_refused c s ok law r w d n t x k
-
       -- The wire tree of a sound array decodes to what is read back of it, where each of its nodes is written, its
       -- metadata fits its message, whose bytes can be counted, the types in it are known, and its statistics can be
       -- stored; and nothing reads its topmost foreign nodes.
@@ -123,7 +126,6 @@ module _ (c : Codec) (s : SessionMeaning) where
         dtype = canon_dtype (spelled c s) (label t).dtype t;
         len = canon_len (spelled c s) (label t).dtype t;
         sound = Canon.canon_sound (spelled c s) t x;
-        normal = λ _. Canon.canon_normal (spelled c s) t x;
       }
 
   -- A node whose children decode to arrays where they are planned decodes to the array that is built of its parts, with

@@ -12,7 +12,7 @@ use Rattle.vx_wire_tree.specs.Codec.{Codec, HasLawfulStats}
 use Rattle.vx_wire_tree.specs.Causes.{HasChildren}
 use Rattle.vx_wire_tree.specs.Matches.{IsNodeBy, IsPluginNode, AllMatch}
 use Rattle.vx_wire_tree.specs.Plugin.{PluginMeaning, head_at}
-use Rattle.vx_wire_tree.specs.Session.{SessionMeaning, plugin, IsShippedReader}
+use Rattle.vx_wire_tree.specs.Session.{SessionMeaning, plugin}
 use Rattle.vx_wire_tree.specs.Steps.{IsToldBy}
 use Rattle.vx_wire_tree.specs.DecodesTo.{DecodesTo}
 use Rattle.vx_wire_tree.specs.Wire.{WireHead, Wires, all_present}
@@ -56,6 +56,5 @@ plugin_decodes c s law id p w ws d n ps bs ts t u i r plan b k build sound y =
       dtype = dtype;
       len = len;
       sound = stats_sound y.stats t sound fit;
-      normal = λ ok. absurd (subst (λ z. IsShippedReader z) r (ok.reads id));
     } in
     subst (λ (z : Tree). DecodesTo c s (node w ws) d n z) (sym y.tree_is) all

@@ -90,6 +90,7 @@ module _ (c : Codec) (s : SessionMeaning) (law : IsLawful c s) (paired : IsPaire
         };
         buffers = refl;
         stats = own_stats h.dtype h.stats x.sound.0.stats k x.kept.0;
+        normal = x.normal.0;
         children = kids;
       } in
       (written_id s h, refl, node_by c s (s.reader (written_id s h)) e (written_id s h) (wire_head c s h us) (wires c s us) (node h ts) (λ zs. AllMatch c s (wires c s us) zs) r refl here)

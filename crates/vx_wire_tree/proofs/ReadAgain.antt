@@ -15,14 +15,15 @@ use Rattle.vx_array_tree.specs.Encoding as E
 use Rattle.vx_array_tree.specs.Encodings.Foreigns as Foreigns
 use Rattle.vx_array_tree.specs.Encodings.Primitives as Primitives
 use Rattle.vx_array_tree.specs.Metadata.{Metadata}
+use Rattle.vx_array_tree.specs.Normal.{IsNormal}
 use Rattle.vx_array_tree.specs.Metadata as M
 use Rattle.vx_array_tree.specs.Place.{Place}
 use Rattle.vx_array_tree.specs.Sound.{IsSound, IsSoundNode, metadata_in}
 use Rattle.vx_array_tree.specs.Table.{encoding_of, id_of, IsNative, IsNativeEncoding, IsFair}
 use Rattle.vx_array_tree.specs.Tree.{Head, Tree, Trees, places}
 use Rattle.vx_array_tree.proofs.Bodies.{cleared_encoding, cleared_buffers}
-use Rattle.vx_array_tree.proofs.CanonLaws.{by_node}
-use Rattle.vx_array_tree.proofs.CanonPlaces.{known_node, foreign_node, Planned, planned_at, types_at, kids_metadata}
+use Rattle.vx_array_tree.proofs.CanonLaws.{by_node, foreign_normal, canon_at_normal}
+use Rattle.vx_array_tree.proofs.CanonPlaces.{known, known_node, foreign_node, Planned, planned_at, types_at, kids_metadata}
 use Rattle.vx_array_tree.proofs.Identifiers.{distinct_ids}
 use Rattle.vx_array_tree.proofs.Retyped.{IsRetyped, AreRetyped, retyped_same}
 use Rattle.vx_wire_tree.specs.KnownTypes.{KnowsNode, KnowsTypes}
@@ -79,10 +80,10 @@ module _ (c : Codec) (s : SessionMeaning) where
 
   module _ (law : IsLawful c s) where
     -- A node as it is read back at a type matches what was written of it, if its children do.
-    encoded_again : (d : Typ) (h : Head) (ts : Trees) → IsNative h.body → IsSoundNode h ts → IsReadBack c s h ts → (r : IsRetyped h.dtype d)
+    encoded_again : (d : Typ) (h : Head) (ts : Trees) → IsNative h.body → IsSoundNode h ts → IsNormal (known_node (spelled c s) d h ts) → IsReadBack c s h ts → (r : IsRetyped h.dtype d)
         → ((p : Planned d h ts) → AllMatch c s (wires c s ts) (canon_all (spelled c s) (types_in p.at) ts))
         → IsEncodedNode c s (encoding_of h.body) (wire_head c s h ts) (known_node (spelled c s) d h ts) (λ us. AllMatch c s (wires c s ts) us)
-    encoded_again d h ts native x b r kids =
+    encoded_again d h ts native x n b r kids =
         let e = encoding_of h.body in
         let p = planned_at d h ts native x r in
         let v = metadata_in h ts in
@@ -100,8 +101,13 @@ module _ (c : Codec) (s : SessionMeaning) where
           metadata = subst (λ (z : Metadata). IsMetadata c s.ext e d (metadata_bytes c (told v)) z) (sym (kids_metadata (spelled c s) d h ts p)) m;
           buffers = ap (λ bs. all_present bs) (sym (cleared_buffers h.body));
           stats = law.stats.stats_again d h.stats fit b.storable;
+          normal = n.0;
           children = subst (λ (ds : List Typ). AllMatch c s (wires c s ts) (canon_all (spelled c s) ds ts)) (sym (types_at d h ts p)) (kids p);
         }
+
+    -- What is read back of a sound node of a known encoding is normal.
+    known_normal : (d : Typ) (h : Head) (ts : Trees) → IsNative h.body → IsSound (node h ts) → IsRetyped h.dtype d → IsNormal (known_node (spelled c s) d h ts)
+    known_normal d h ts native x r = subst IsNormal (known h.body (known_node (spelled c s) d h ts) (foreign_node (spelled c s) d h ts) native) (canon_at_normal (spelled c s) d (node h ts) x r)
 
     node_again : (d : Typ) (h : Head) (ts : Trees) → IsNative h.body → IsReadBack c s h ts
         → IsEncodedNode c s (encoding_of h.body) (wire_head c s h ts) (known_node (spelled c s) d h ts) (λ us. AllMatch c s (wires c s ts) us)
@@ -114,7 +120,7 @@ module _ (c : Codec) (s : SessionMeaning) where
     foreign_again d h ts x e k =
         let t = foreign_node (spelled c s) d h ts in
         let r : s.reader (written_id s h) ≡ None = ap (λ b. s.reader (body_id (writes_two s) b h.len)) e ∙ k.reader in
-        (written_id s h, refl, subst (λ z. IsNodeBy c s z (wire_head c s h ts) (wires c s ts) t (λ us. AllMatch c s (wires c s ts) us)) (sym r) (k.allowed, raw_again d h.len (node h ts)))
+        (written_id s h, refl, subst (λ z. IsNodeBy c s z (wire_head c s h ts) (wires c s ts) t (λ us. AllMatch c s (wires c s ts) us)) (sym r) (k.allowed, raw_again d h.len (node h ts), foreign_normal (spelled c s) d h.len (node h ts)))
 
     mutual
       -- A sound array that can be read back: what is read back matches its wire tree, at its own type or at one that
@@ -124,7 +130,7 @@ module _ (c : Codec) (s : SessionMeaning) where
           by_node (spelled c s) (λ u. Matches c s (wire c s (node h ts)) u) d h ts
           (λ native.
           let y = read_back_native h.body h ts (AllReadBack c s ts) native b in
-          node_again d h ts native y.0 (encoded_again d h ts native x.0 y.0 r (λ p. canon_all_match ts p.at x.1 y.1 p.retyped)))
+          node_again d h ts native y.0 (encoded_again d h ts native x.0 (known_normal d h ts native x r) y.0 r (λ p. canon_all_match ts p.at x.1 y.1 p.retyped)))
           (λ z e. foreign_again d h ts z e (read_back_foreign h.body h ts (AllReadBack c s ts) z e b))
 
       canon_all_match : (ts : Trees) (qs : List Place) → EverywhereBelow IsSoundNode ts → AllReadBack c s ts → AreRetyped (places ts) qs → AllMatch c s (wires c s ts) (canon_all (spelled c s) (types_in qs) ts)

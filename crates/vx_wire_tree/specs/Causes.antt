@@ -6,7 +6,6 @@ use Rattle.vx_trees.specs.Everywhere.{EverywhereBelow}
 use Rattle.vx_types.specs.Typ.{Typ}
 use Rattle.vx_array_tree.specs.Encoding.{Encoding}
 use Rattle.vx_array_tree.specs.Metadata.{Metadata}
-use Rattle.vx_array_tree.specs.Normal.{IsNormalNode}
 use Rattle.vx_array_tree.specs.Place.{Place}
 use Rattle.vx_array_tree.specs.Sound.{IsSoundNode, IsControlledBy}
 use Rattle.vx_array_tree.specs.Table.{plan_of, IsShaped, Takes, Content}
@@ -17,7 +16,7 @@ use Rattle.vx_wire_tree.specs.Placed.{Claim, HoldsSomewhere, Anywhere}
 use Rattle.vx_wire_tree.specs.Plugin.{PluginMeaning, head_at}
 use Rattle.vx_wire_tree.specs.Reads.{IsMetadata}
 use Rattle.vx_wire_tree.specs.Revised.{revised_holds}
-use Rattle.vx_wire_tree.specs.Session.{SessionMeaning, Reader, revised, plugin, encoding_by, IsShipped}
+use Rattle.vx_wire_tree.specs.Session.{SessionMeaning, Reader, revised, plugin, encoding_by}
 use Rattle.vx_wire_tree.specs.Steps.{HasNoMetadata, HasNoStats}
 use Rattle.vx_wire_tree.specs.Wire.{Wire, Wires, all_present}
 
@@ -67,12 +66,10 @@ MayStandFor (o ∷ os) [] = ⊥
 MayStandFor (Some b ∷ os) (x ∷ xs) = (x ≡ b) × MayStandFor os xs
 MayStandFor (None ∷ os) (x ∷ xs) = MayStandFor os xs
 
--- Wire trees match sound arrays one by one, which stand at these places. The arrays are normal, where no plugin reads
--- or writes.
+-- Wire trees match sound arrays one by one, which stand at these places.
 pub record AllTell (c : Codec) (s : SessionMeaning) (ws : Wires) (ps : List Place) (ts : Trees) : Type 0 where
   pub matched : AllMatch c s ws ts
   pub sound : EverywhereBelow IsSoundNode ts
-  pub normal : IsShipped s → EverywhereBelow IsNormalNode ts
   pub placed : places ts ≡ ps
 
 -- The same for a node's children.

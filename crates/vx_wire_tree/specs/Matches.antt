@@ -8,6 +8,7 @@ use Rattle.vx_array_tree.specs.Body as B
 use Rattle.vx_array_tree.specs.Encoding.{Encoding}
 use Rattle.vx_array_tree.specs.Encoding as E
 use Rattle.vx_array_tree.specs.Encodings.Foreigns as Foreigns
+use Rattle.vx_array_tree.specs.Normal.{IsNormal, IsNormalNode}
 use Rattle.vx_array_tree.specs.Sound.{IsSoundNode, metadata_in}
 use Rattle.vx_array_tree.specs.Table.{encoding_of, buffers_of}
 use Rattle.vx_array_tree.specs.Tree.{Head, Tree, Trees, places, with_stats}
@@ -37,13 +38,14 @@ abbrev mutual
   AreRaw end us = us ≡ end
   AreRaw (more w ws) us = elim us [ end ↦ ⊥ | more u vs ↦ IsRaw w u × AreRaw ws vs ]
 
--- A node of an encoding: the array is of that encoding, the metadata is its own, the buffers are equal with
--- their exponents, the statistics are those that the field shows, and the children match.
+-- A node of an encoding: the array is of that encoding and in the normal form, the metadata is its own, the buffers are
+-- equal with their exponents, the statistics are those that the field shows, and the children match.
 pub record IsEncodedNode (c : Codec) (s : SessionMeaning) (e : Encoding) (w : WireHead) (t : Tree) (Below : Trees → Type 0) : Type 0 where
   pub encoding : encoding_of (label t).body ≡ e
   pub metadata : IsMetadata c s.ext e (label t).dtype w.metadata (metadata_in (label t) (below t))
   pub buffers : w.buffers ≡ all_present (buffers_of (label t).body)
   pub stats : c.ShowsStats (label t).dtype w.stats (label t).stats
+  pub normal : IsNormalNode (label t) (below t)
   pub children : Below (below t)
 
 -- A node's identifier holds n rows, where primitives have two identifiers.
@@ -53,7 +55,8 @@ pub record IsHeldNode (w : WireHead) (n : ℕ) : Type 0 where
   pub holds : IsTrue (revised_holds id n)
 
 -- A node that a plugin reads: with the statistics that the field shows, the array is what the plugin builds of the
--- node's head, of its buffers, and of sound arrays that match the children and stand where the plugin plans them.
+-- node's head, of its buffers, and of sound arrays that match the children and stand where the plugin plans them. What
+-- the plugin builds need not be in the normal form.
 pub record IsPluginNode (c : Codec) (s : SessionMeaning) (p : PluginMeaning) (w : WireHead) (k : ℕ) (t : Tree) (Below : Trees → Type 0) : Type 0 where
   pub id : List ℕ
   pub id_is : w.id ≡ Some id
@@ -70,12 +73,13 @@ pub record IsPluginNode (c : Codec) (s : SessionMeaning) (p : PluginMeaning) (w 
   pub tree_is : t ≡ with_stats stats built
 
 -- A node by what reads its identifier. Primitives under two identifiers hold some lengths under each. A node that
--- nothing reads is foreign, with all below it, where such nodes are allowed, and else decodes to no array.
+-- nothing reads is foreign, with all below it, and in the normal form, where such nodes are allowed, and else decodes to
+-- no array.
 abbrev pub IsNodeBy : Codec → SessionMeaning → Option Reader → WireHead → Wires → Tree → (Trees → Type 0) → Type 0
 IsNodeBy c s (Some (shipped e)) w ws t Below = IsEncodedNode c s e w t Below
 IsNodeBy c s (Some revised) w ws t Below = IsHeldNode w (label t).len × IsEncodedNode c s E.primitive w t Below
 IsNodeBy c s (Some (plugin p)) w ws t Below = IsPluginNode c s p w (count ws) t Below
-IsNodeBy c s None w ws t Below = IsTrue s.ext.unknown × IsRaw (node w ws) t
+IsNodeBy c s None w ws t Below = IsTrue s.ext.unknown × IsRaw (node w ws) t × IsNormal t
 
 abbrev mutual
   -- A wire tree matches an array: its identifier is there, and the array is a node by what reads it, over

@@ -11,7 +11,6 @@ use Rattle.vx_array_tree.specs.Encoding as E
 use Rattle.vx_array_tree.specs.Metadata as M
 use Rattle.vx_array_tree.specs.Place.{place}
 use Rattle.vx_array_tree.specs.Table.{encoding_named}
-use Rattle.vx_array_tree.proofs.LawsControls.{leaf, one_leaf}
 use Rattle.vx_array_tree_tests.proofs.Samples.{i32s, entry, entry_type, list_of, listed, map_type, maps}
 use Rattle.vx_array_tree_tests.proofs.SoundSamples.{listed_sound}
 use Rattle.vx_wire_tree.specs.Causes.{bad_shape, RefusesTree}
@@ -53,6 +52,7 @@ numbers_match ns e = (
     metadata = record { fields = F.empty; shown = refl; meaning = refl; fair = tt; known = tt };
     buffers = refl;
     stats = refl;
+    normal = tt;
     children = refl;
   },
 )
@@ -67,6 +67,7 @@ entry_matches = (
     metadata = record { fields = F.empty; shown = refl; meaning = refl; fair = tt; known = tt };
     buffers = refl;
     stats = refl;
+    normal = tt;
     children = (
       numbers_match (1 ∷ []) refl,
       (
@@ -78,6 +79,7 @@ entry_matches = (
             metadata = record { fields = F.varbin P.I32; shown = (refl, refl); meaning = refl; fair = refl; known = tt };
             buffers = refl;
             stats = refl;
+            normal = tt;
             children = (numbers_match (0 ∷ 1 ∷ []) refl, refl);
           },
         ),
@@ -96,13 +98,14 @@ listed_matches = (
     metadata = record { fields = F.list 1 P.I32; shown = (refl, refl); meaning = refl; fair = refl; known = tt };
     buffers = refl;
     stats = refl;
+    normal = tt;
     children = (entry_matches, (numbers_match (0 ∷ 1 ∷ []) refl, refl));
   },
 )
 
 -- The list decodes to itself, where a list stands.
 listed_told : DecodesTo codec session (wire codec session listed) (list_of entry_type) 1 listed
-listed_told = record { matched = listed_matches; dtype = refl; len = refl; sound = listed_sound; normal = λ _. (tt, ((tt, (leaf, ((tt, one_leaf), tt))), one_leaf)) }
+listed_told = record { matched = listed_matches; dtype = refl; len = refl; sound = listed_sound }
 
 -- As the entries of maps it has the wrong shape, and the cause is at the node of the maps.
 list_as_entries : RefusesTree bad_shape codec session (wire codec session (maps listed)) map_type 1
@@ -117,7 +120,7 @@ list_as_entries = (
       places_are = place (list_of entry_type) 1 ∷ [];
       plan = refl;
       children = more listed end;
-      matched = record { matched = (listed_matches, refl); sound = (listed_sound, tt); normal = λ h. (listed_told.normal h, tt); placed = refl };
+      matched = record { matched = (listed_matches, refl); sound = (listed_sound, tt); placed = refl };
       untaken = λ h. h;
     })));
   },

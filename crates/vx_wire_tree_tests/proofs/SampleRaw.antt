@@ -228,9 +228,8 @@ foreign_validity = (
     plan = refl;
     children = more flags end;
     matched = record {
-      matched = ((codes "x.new", refl, (refl, (record { kept = new_flags; body = refl; id = refl; metadata = refl; buffers = refl }, refl))), refl);
+      matched = ((codes "x.new", refl, (refl, (record { kept = new_flags; body = refl; id = refl; metadata = refl; buffers = refl }, refl), (record { stats = refl; children = tt }, tt))), refl);
       sound = ((record { fair = tt; planned = refl; allows = tt; takes = tt; holds = tt; controlled = native_controlled _ _ _ tt; content = tt; stats = none_fit _ }, tt), tt);
-      normal = λ _. ((record { stats = refl; children = tt }, tt), tt);
       placed = refl;
     };
     foreign = λ k. (k.controls 0 flags refl refl).0;

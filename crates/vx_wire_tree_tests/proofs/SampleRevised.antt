@@ -133,10 +133,10 @@ abbrev numbers_node : List ℕ → Buffer → Wire
 numbers_node id b = node (record { id = Some id; metadata = []; buffers = Some b ∷ []; stats = absent }) end
 
 four_told : (id : List ℕ) → IsEncodedNode codec two E.primitive (label (numbers_node id four_values)) four_rows (λ us. us ≡ end)
-four_told id = record { encoding = refl; metadata = record { fields = F.empty; shown = refl; meaning = refl; fair = tt; known = tt }; buffers = refl; stats = refl; children = refl }
+four_told id = record { encoding = refl; metadata = record { fields = F.empty; shown = refl; meaning = refl; fair = tt; known = tt }; buffers = refl; stats = refl; normal = tt; children = refl }
 
 five_told : (s : SessionMeaning) (id : List ℕ) → IsEncodedNode codec s E.primitive (label (numbers_node id five_values)) five_rows (λ us. us ≡ end)
-five_told s id = record { encoding = refl; metadata = record { fields = F.empty; shown = refl; meaning = refl; fair = tt; known = tt }; buffers = refl; stats = refl; children = refl }
+five_told s id = record { encoding = refl; metadata = record { fields = F.empty; shown = refl; meaning = refl; fair = tt; known = tt }; buffers = refl; stats = refl; normal = tt; children = refl }
 
 old_four_matches : Matches codec two (numbers_node (codes "vortex.primitive") four_values) four_rows
 old_four_matches = (name, refl, (record { id = name; id_is = refl; holds = refl }, four_told name))

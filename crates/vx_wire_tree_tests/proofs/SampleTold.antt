@@ -77,6 +77,7 @@ matched = (
     metadata = record { fields = F.empty; shown = refl; meaning = refl; fair = tt; known = tt };
     buffers = refl;
     stats = refl;
+    normal = tt;
     children = refl;
   },
 )
@@ -94,6 +95,7 @@ matched_stats = (
     metadata = record { fields = F.empty; shown = refl; meaning = refl; fair = tt; known = tt };
     buffers = refl;
     stats = refl;
+    normal = tt;
     children = refl;
   },
 )
@@ -194,7 +196,7 @@ wrong_prefix = (
     buffers_are = refl;
     shaped = record { body = B.varbinview long_views; body_is = refl; holds = record { length_is = refl; aligned = omega arith }; allows = λ e. absurd (omega arith) };
     children = end;
-    matched = record { matched = refl; sound = tt; normal = λ _. tt; placed = refl };
+    matched = record { matched = refl; sound = tt; placed = refl };
     controlled = native_controlled _ _ _ tt;
     broken = λ c. none-some _ (c 0 (omega arith) refl).1;
   },

@@ -86,6 +86,7 @@ bare_matches d = (
     metadata = record { fields = F.variant None; shown = refl; meaning = refl; fair = tt; known = tt };
     buffers = refl;
     stats = refl;
+    normal = tt;
     children = (core_matches d, refl);
   },
 )
@@ -117,15 +118,16 @@ typed_matches = (
     metadata = record { fields = F.variant (Some numbers); shown = (refl, refl); meaning = refl; fair = (refl, tt); known = (tt, tt) };
     buffers = refl;
     stats = refl;
+    normal = tt;
     children = (core_matches numbers, (numbers_match, refl));
   },
 )
   where
     bits_match : Matches (codec numbers) (session true) bits_node (bits 2 1)
-    bits_match = (codes "vortex.bool", refl, record { encoding = refl; metadata = record { fields = F.bool 0; shown = refl; meaning = refl; fair = omega arith; known = tt }; buffers = refl; stats = refl; children = refl })
+    bits_match = (codes "vortex.bool", refl, record { encoding = refl; metadata = record { fields = F.bool 0; shown = refl; meaning = refl; fair = omega arith; known = tt }; buffers = refl; stats = refl; normal = tt; children = refl })
 
     numbers_match : Matches (codec numbers) (session true) numbers_node typed
-    numbers_match = (codes "vortex.primitive", refl, record { encoding = refl; metadata = record { fields = F.empty; shown = refl; meaning = refl; fair = tt; known = tt }; buffers = refl; stats = refl; children = (bits_match, refl) })
+    numbers_match = (codes "vortex.primitive", refl, record { encoding = refl; metadata = record { fields = F.empty; shown = refl; meaning = refl; fair = tt; known = tt }; buffers = refl; stats = refl; normal = tt; children = (bits_match, refl) })
 
 -- ---- which types are known
 
@@ -195,6 +197,7 @@ days_match = (
     metadata = record { fields = F.empty; shown = refl; meaning = refl; fair = tt; known = tt };
     buffers = refl;
     stats = refl;
+    normal = tt;
     children = (
       (
         codes "vortex.primitive",
@@ -204,6 +207,7 @@ days_match = (
           metadata = record { fields = F.empty; shown = refl; meaning = refl; fair = tt; known = tt };
           buffers = refl;
           stats = refl;
+          normal = tt;
           children = refl;
         },
       ),

@@ -390,14 +390,12 @@ module _ (seed rows : ℕ) (h : rows ≤ 1000000) where
   table_told : DecodesTo codec make_session w (label t).dtype (label t).len t
   table_told =
       let sound = made_sound seed rows h in
-      let normal = made_normal seed rows in
       let law = registry_lawful no_plugins shipped_registry no_readers in
       record {
         matched = subst (λ z. Matches codec make_session w z) table_own (written_matches codec make_session law t sound (table_read_back seed rows h));
         dtype = refl;
         len = refl;
         sound = sound;
-        normal = λ _. normal;
       }
 
   module _ (after : Context) (buffers : List Buffer) (x : IsSerialized make_session t make_options no_ids after buffers) where

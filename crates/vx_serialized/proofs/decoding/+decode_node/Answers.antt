@@ -30,7 +30,7 @@ pub returns-in_default-reader-clause-paired : goal.returns-in_default-reader-cla
 returns-in_default-reader-clause-paired g t c = ok_of c.unread_node.result _ (c.in_default-reader.ensures.paired (ext_meaning (λ b. ((dyn-1-ghosts g.dyn-2 g.dyn-1).0.entry b.vtable).1.accepted b.value) c.args.session.now.ext))
 
 pub loop-i-init : goal.loop-i-init
-loop-i-init g t c = rw c.new-children.ensures (record { matched = refl; sound = tt; normal = λ _. tt; placed = refl })
+loop-i-init g t c = rw c.new-children.ensures (record { matched = refl; sound = tt; placed = refl })
 
 pub unreachable-requires : goal.unreachable-requires
 unreachable-requires g t c =

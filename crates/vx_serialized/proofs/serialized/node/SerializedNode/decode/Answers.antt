@@ -7,7 +7,7 @@ use Rattle.vx_serialized.proofs.LawsOfTrees.{told_one}
 use Rattle.vx_serialized.proofs.serialized.node.SerializedNode.decode.Goals as goal
 
 pub returns-clause-one : goal.returns-clause-one
-returns-clause-one g c = λ shipped t told.
+returns-clause-one g c = λ t told.
     let x = ext_meaning (λ b. (goal.ExtPlugin-dyn g (b.vtable, b.value)).accepted b.value) c.args.session.now.ext in
     let s = session_meaning (λ b. (goal.ArrayPlugin-dyn g (b.vtable, b.value)).means b.value) (λ b. (goal.ExtPlugin-dyn g (b.vtable, b.value)).accepted b.value) c.args.session.now in
-    told_one s shipped (session_lawful (λ b. (goal.ArrayPlugin-dyn g (b.vtable, b.value)).means b.value) c.args.session.now.arrays x) (wire_in c.args.ids.now c.args.self.now) (typ c.args.dtype.now) c.args.len c.decode_node.result c.decode_node.ensures.told c.decode_node.ensures.cause t told
+    told_one s (session_lawful (λ b. (goal.ArrayPlugin-dyn g (b.vtable, b.value)).means b.value) c.args.session.now.arrays x) (wire_in c.args.ids.now c.args.self.now) (typ c.args.dtype.now) c.args.len c.decode_node.result c.decode_node.ensures.told c.decode_node.ensures.cause t told
