@@ -1,8 +1,8 @@
 //! The library of Duriancards, by the module names of upstream's crates: everything that a user of arrays and blobs needs.
 //! This crate has no code of its own. Each item is documented, and its contract stands, in the crate that declares it.
 //!
-//! [`prelude`] has what most programs use: write an array with [`serde::ArrayExt`], read a blob with
-//! [`serde::SerializedArray`], or do both with [`serde::recode`].
+//! [`prelude`] has what most programs use: write an array with [`serde::ArrayExt`], read a blob with [`serde::read_blob`],
+//! look into one with [`serde::SerializedArray`], or read and write with [`serde::recode`].
 #![tactic(auto)]
 
 pub mod arrays;

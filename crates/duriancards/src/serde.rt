@@ -1,6 +1,6 @@
 //! Blobs: arrays written and read.
 
 pub use vx_serde::{
-    ArrayExt, ArrayNodeFlatBuffer, BufferLengths, Recoded, SerializeOptions, SerializedArray,
-    SerializedNode, WireError, recode,
+    ArrayExt, ArrayNodeFlatBuffer, BlobRefusal, BufferLengths, Recoded, SerializeOptions,
+    SerializedArray, SerializedNode, WireError, read_blob, recode,
 };

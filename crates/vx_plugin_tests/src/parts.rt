@@ -9,7 +9,7 @@ use vx_buffer::{Alignment, BufferHandle, BufferHandles, ByteBuffer, ByteBuffers}
 use vx_registry::{
     ArrayContext, ArrayPlugin, ArraySession, PluginEntry, ReadContext, VortexSession,
 };
-use vx_serde::{ArrayExt, SerializeOptions, SerializedArray, WireError};
+use vx_serde::{ArrayExt, SerializeOptions, WireError, read_blob};
 use vx_test_arrays::parts::both;
 use vx_type_wire::{ExtPlugin, ExtSession};
 use vx_types::{Blob, DType, ExtDType, Id, Ids, Nullability, PType};
@@ -306,11 +306,6 @@ pub(crate) fn read(
     texts: &[&str],
     session: &VortexSession,
 ) -> Result<Array, WireError> {
-    let opened = SerializedArray::try_from_buffer(alloc, blob);
-    let (serialized, ids) = both(opened, ids_of(alloc, texts))?;
-    let ids = ReadContext::new(ids);
-    let array = serialized.decode(alloc, dtype, len, &ids, session);
-    drop(ids);
-    drop(serialized);
-    array
+    let ids = ReadContext::new(ids_of(alloc, texts)?);
+    read_blob(alloc, blob, dtype, len, &ids, session, false)
 }

@@ -23,6 +23,8 @@ mod Gathered
 mod OneArray
 mod GrownIds
 mod WrittenAgain
+mod Readable
+mod Readings
 mod Recodings
 mod NeverCaused
 mod PadsAlign

@@ -4,26 +4,29 @@ use Rattle.std.specs.Prelude.{IsSome}
 use Rattle.std.specs.Int.{w32, from_le_bytes}
 use Rattle.vx_array_tree.specs.Tree.{Tree}
 use Rattle.vx_flat.specs.Value.{Fields}
+use Rattle.vx_flat.specs.declared.limits.Limits.{Limits}
+use Rattle.vx_types.specs.Typ.{Typ}
 use Rattle.vx_flat.specs.Shows.{Shows}
 use Rattle.vx_flat.proofs.LawsOfMessages.{shown-one}
 use Rattle.vx_wire_tree.specs.Codec.{IsLawful}
 use Rattle.vx_wire_tree.specs.Context.{Context, grown}
 use Rattle.vx_wire_tree.specs.ReadBack.{IsWritten}
-use Rattle.vx_wire_tree.specs.Session.{IsShipped, IsPaired}
+use Rattle.vx_wire_tree.specs.Session.{SessionMeaning, IsShipped, IsPaired}
 use Rattle.vx_wire_tree.specs.Wire.{Wire}
 use Rattle.vx_wire_tree.proofs.Laws.{matched_written}
 use Rattle.vx_encodings.specs.Messages.{codec}
 use Rattle.vx_serialized.specs.declared.error.WireError.{WireError}
-use Rattle.vx_serialized.specs.declared.error.WireError.TheVariants.{OutOfMemory, TooShort, BadTable, TableLimit, BadAlignment, Compressed, OutOfBounds, NotPermitted, WireLimit}
+use Rattle.vx_serialized.specs.declared.error.WireError.TheVariants.{OutOfMemory, TooShort, BadTable, TableLimit, BadAlignment, Compressed, OutOfBounds, UnknownIndex, UnknownEncoding, BadMetadata, BadShape, BadContent, ForeignControl, BadStats, NotPermitted, WireLimit, PluginRefused}
 use Rattle.vx_serialized.specs.ArraySchema.{array_schema}
 use Rattle.vx_serialized.specs.declared.message.Descriptor.{Descriptor}
 use Rattle.vx_serialized.specs.Message.{message_of}
-use Rattle.vx_serialized.specs.Blob.{Carries, IsBlob, AreClean}
+use Rattle.vx_serialized.specs.Blob.{IsBlob, AreClean}
+use Rattle.vx_serialized.specs.Carried.{IsWithinLimits, RefusesCarried, RefusesBlob}
 use Rattle.vx_serde.specs.Limits.{message_limits}
 use Rattle.vx_serialized.specs.Opening.{IsTooShort, RefusesOpening, RefusesDescriptors, HasRefusedDescriptors, ShowsNoRoot}
 use Rattle.vx_serialized.specs.Causes.{RefusesWire}
-use Rattle.vx_serde.specs.Causes.{RefusesWriting, RefusesArray, RefusesCarried}
-use Rattle.vx_serde.specs.Spells.{KeepsReaderLimits, KeepsWriterLimits}
+use Rattle.vx_serde.specs.Causes.{RefusesReading, RefusesWriting, RefusesArray}
+use Rattle.vx_serde.specs.Spells.{Spells, KeepsWriterLimits}
 use Rattle.vx_serde.specs.Request.{Request, IsSpelled, CanRecode}
 use Rattle.vx_serde.proofs.OneArray.{spelled_once}
 use Rattle.vx_serialized.proofs.LawsOfBlobs.{one_blob, carried_once, backs}
@@ -48,39 +51,39 @@ not_refused Compressed segment ds clean r = absurd (omega (arith, clean.plain r.
 not_refused OutOfBounds segment ds clean r = absurd (omega (arith, clean.within, r))
 not_refused _ segment ds clean r = absurd r
 
-module _ (asked : Request) (ok : IsShipped asked.session) (law : IsLawful codec asked.session) (t : Tree) (spelled : IsSpelled asked t) where
-  same_value_of : (segment message : List ℕ) (v : Fields) → IsBlob asked.blob segment message → Shows array_schema message v → (segment ≡ spelled.carried.segment) × (v ≡ spelled.carried.value)
+module _ (most : Limits) (s : SessionMeaning) (law : IsLawful codec s) (blob : List ℕ) (ids : List (List ℕ)) (d : Typ) (n : ℕ) (t : Tree) (spelled : Spells blob ids d n s t) where
+  same_value_of : (segment message : List ℕ) (v : Fields) → IsBlob blob segment message → Shows array_schema message v → (segment ≡ spelled.carried.segment) × (v ≡ spelled.carried.value)
   same_value_of segment message v is shows =
       let k = spelled.carried in
-      let parts = one_blob asked.blob segment k.segment message k.message is k.blob_is in
+      let parts = one_blob blob segment k.segment message k.message is k.blob_is in
       let P : List ℕ → Type 0 = λ m. Shows array_schema m v in
       (parts.0, shown-one array_schema k.message v k.value (subst P parts.1 shows) k.shows)
 
-  not_described : (x : WireError) → HasRefusedDescriptors x asked.blob → x ≡ OutOfMemory
+  not_described : (x : WireError) → HasRefusedDescriptors x blob → x ≡ OutOfMemory
   not_described x h =
       let same = same_value_of h.segment h.message h.value h.blob_is h.shows in
       let A : List ℕ → Type 0 = λ z. RefusesDescriptors x z (message_of h.value).descriptors in
       let B : Fields → Type 0 = λ z. RefusesDescriptors x spelled.carried.segment (message_of z).descriptors in
       not_refused x spelled.carried.segment (message_of spelled.carried.value).descriptors spelled.clean (subst B same.1 (subst A same.0 h.refused))
 
-  not_rootless : ShowsNoRoot asked.blob → ⊥
+  not_rootless : ShowsNoRoot blob → ⊥
   not_rootless h =
       let k = spelled.carried in
-      let parts = one_blob asked.blob k.segment h.segment k.message h.message k.blob_is h.blob_is in
+      let parts = one_blob blob k.segment h.segment k.message h.message k.blob_is h.blob_is in
       let P : List ℕ → Type 0 = λ m. Shows array_schema m k.value in
       h.none k.value k.root (subst P parts.1 k.shows) k.root_is
 
   -- Its wire tree is not refused.
-  pub never_below : (x : WireError) → RefusesCarried asked x → x ≡ OutOfMemory
+  never_below : (x : WireError) → RefusesCarried s x blob ids d n → x ≡ OutOfMemory
   never_below x h =
-      let same = (carried_once asked.blob asked.ids h.wire spelled.wire h.carried spelled.carried).tree in
-      let P : Wire → Type 0 = λ z. RefusesWire asked.session x z asked.dtype asked.len in
-      never_caused asked.session law x spelled.wire asked.dtype asked.len t spelled.told (subst P same h.cause)
+      let same = (carried_once blob ids h.wire spelled.wire h.carried spelled.carried).tree in
+      let P : Wire → Type 0 = λ z. RefusesWire s x z d n in
+      never_caused s law x spelled.wire d n t spelled.told (subst P same h.cause)
 
   -- The blob is opened.
-  pub never_closed : KeepsReaderLimits asked.options asked.blob → (x : WireError) → RefusesOpening (message_limits asked.options) x asked.blob → x ≡ OutOfMemory
+  never_closed : IsWithinLimits most blob → (x : WireError) → RefusesOpening most x blob → x ≡ OutOfMemory
   never_closed within_limits OutOfMemory h = refl
-  never_closed within_limits TooShort h = absurd (not_short asked.blob spelled.carried.segment spelled.carried.message spelled.carried.blob_is h)
+  never_closed within_limits TooShort h = absurd (not_short blob spelled.carried.segment spelled.carried.message spelled.carried.blob_is h)
   never_closed within_limits BadTable h = absurd (not_rootless h)
   never_closed within_limits TableLimit h = absurd (h.over_limits (within_limits.within_limits h.segment h.message h.blob_is))
   never_closed within_limits BadAlignment h = not_described BadAlignment h
@@ -88,31 +91,50 @@ module _ (asked : Request) (ok : IsShipped asked.session) (law : IsLawful codec 
   never_closed within_limits OutOfBounds h = not_described OutOfBounds h
   never_closed within_limits _ h = absurd h
 
-  is_grown : (o : Option Context) → IsSome o → o ≡ None → ⊥
-  is_grown (Some d) some e = absurd (cc)
-  is_grown None some e = absurd (cc)
+  -- Where the blob spells an array within the limits, it is read, unless allocation fails.
+  pub never_refused : IsWithinLimits most blob → (x : WireError) → RefusesBlob most s x blob ids d n → x ≡ OutOfMemory
+  never_refused within OutOfMemory h = refl
+  never_refused within TooShort h = never_closed within TooShort h
+  never_refused within BadTable h = never_closed within BadTable h
+  never_refused within TableLimit h = never_closed within TableLimit h
+  never_refused within BadAlignment h = never_closed within BadAlignment h
+  never_refused within Compressed h = never_closed within Compressed h
+  never_refused within OutOfBounds (inl h) = never_closed within OutOfBounds h
+  never_refused within OutOfBounds (inr h) = never_below OutOfBounds h
+  never_refused within UnknownIndex h = never_below UnknownIndex h
+  never_refused within UnknownEncoding h = never_below UnknownEncoding h
+  never_refused within BadMetadata h = never_below BadMetadata h
+  never_refused within BadShape h = never_below BadShape h
+  never_refused within BadContent h = never_below BadContent h
+  never_refused within ForeignControl h = never_below ForeignControl h
+  never_refused within BadStats h = never_below BadStats h
+  never_refused within PluginRefused h = never_below PluginRefused h
+  never_refused within _ h = absurd h
 
-  module _ (paired : IsPaired asked.session) (fits : KeepsWriterLimits asked.session t asked.context asked.options) where
-    has_writers : IsWritten asked.session t
-    has_writers = matched_written codec asked.session ok law paired spelled.wire t spelled.told.matched
+-- ---- the array
 
-    has_blob : IsSome (grown codec asked.session asked.context t) → (x : WireError) → RefusesWriting asked.session t asked.context asked.options x → x ≡ OutOfMemory
-    has_blob grows OutOfMemory h = refl
-    has_blob grows NotPermitted h = absurd (is_grown (grown codec asked.session asked.context t) grows h)
-    has_blob grows WireLimit h = absurd (h fits)
-    has_blob grows _ h = absurd h
+is_grown : (o : Option Context) → IsSome o → o ≡ None → ⊥
+is_grown (Some d) some e = absurd (cc)
+is_grown None some e = absurd (cc)
 
-    -- And the array has a blob.
-    pub never_unwritten : IsSome (grown codec asked.session asked.context t) → (x : WireError) → RefusesArray asked.session t asked.context asked.options x → x ≡ OutOfMemory
-    never_unwritten grows x h = has_blob grows x (refused_own asked.session ok t asked.context asked.options x has_writers h)
+module _ (asked : Request) (ok : IsShipped asked.session) (law : IsLawful codec asked.session) (t : Tree) (spelled : IsSpelled asked t) (paired : IsPaired asked.session) (fits : KeepsWriterLimits asked.session t asked.context asked.options) where
+  has_writers : IsWritten asked.session t
+  has_writers = matched_written codec asked.session ok law paired spelled.wire t spelled.told.matched
 
--- Where what is asked can be done, the only refusal with a cause is `OutOfMemory`: no cause is one of the blob,
-pub memory_at_blob : (asked : Request) → IsShipped asked.session → IsLawful codec asked.session → (e : WireError) → CanRecode asked → RefusesOpening (message_limits asked.options) e asked.blob → e ≡ OutOfMemory
-memory_at_blob asked ok law e can cause = never_closed asked ok law can.array can.spelled can.reader_limits e cause
+  has_blob : IsSome (grown codec asked.session asked.context t) → (x : WireError) → RefusesWriting asked.session t asked.context asked.options x → x ≡ OutOfMemory
+  has_blob grows OutOfMemory h = refl
+  has_blob grows NotPermitted h = absurd (is_grown (grown codec asked.session asked.context t) grows h)
+  has_blob grows WireLimit h = absurd (h fits)
+  has_blob grows _ h = absurd h
 
--- none of its wire tree,
-pub memory_at_tree : (asked : Request) → IsShipped asked.session → IsLawful codec asked.session → (e : WireError) (w : Wire) → Carries asked.blob asked.ids w → CanRecode asked → RefusesWire asked.session e w asked.dtype asked.len → e ≡ OutOfMemory
-memory_at_tree asked ok law e w carried can cause = never_below asked ok law can.array can.spelled e (record { wire = w; carried = carried; cause = cause })
+  -- And the array has a blob.
+  pub never_unwritten : IsSome (grown codec asked.session asked.context t) → (x : WireError) → RefusesArray asked.session t asked.context asked.options x → x ≡ OutOfMemory
+  never_unwritten grows x h = has_blob grows x (refused_own asked.session ok t asked.context asked.options x has_writers h)
+
+-- Where what is asked can be done, the only refusal with a cause is `OutOfMemory`: no cause is one of reading,
+pub memory_at_reading : (asked : Request) → IsLawful codec asked.session → (e : WireError) → CanRecode asked → RefusesReading asked e → e ≡ OutOfMemory
+memory_at_reading asked law e can cause =
+    never_refused (message_limits asked.options) asked.session law asked.blob asked.ids asked.dtype asked.len can.array can.spelled can.reader_limits e cause
 
 -- and none of the array.
 pub memory_at_array : (asked : Request) → IsShipped asked.session → IsLawful codec asked.session → IsPaired asked.session → (e : WireError) (t : Tree) → IsSpelled asked t → CanRecode asked → RefusesArray asked.session t asked.context asked.options e → e ≡ OutOfMemory

@@ -1,9 +1,7 @@
 -- What recoding a blob gives, what it leaves, and why it refuses.
-use Rattle.std.proofs.Common.{ℕ, ◌≡◌, List, ◌++◌, Option, None, Some, replicate, refl, sym, ap, ◌∙◌, subst, inl, inr}
+use Rattle.std.proofs.Common.{ℕ, ◌≡◌, List, Option, None, Some, refl, sym, ap, ◌∙◌, subst, inl, inr}
 use Rattle.std.specs.Prelude.{IsSome}
 use Rattle.vx_array_tree.specs.Tree.{Tree, Trees}
-use Rattle.vx_flat.specs.Weight.{weight}
-use Rattle.vx_flat.specs.Limits.{KeepsLimits}
 use Rattle.vx_wire_tree.specs.Codec.{IsLawful}
 use Rattle.vx_trees.specs.Rose.{node, end, more}
 use Rattle.vx_trees.specs.Everywhere.{EverywhereBelow}
@@ -16,79 +14,42 @@ use Rattle.vx_wire_tree.specs.Fields.{FitsMessage}
 use Rattle.vx_wire_tree.specs.Limits.{HasMessage, HasMessages}
 use Rattle.vx_wire_tree.specs.Session.{IsShipped, IsPaired}
 use Rattle.vx_wire_tree.specs.Taken.{Unwritten, unregistered, unserializable, undeclared, unwilling, HasUntaken}
-use Rattle.vx_wire_tree.specs.DecodesTo.{DecodesTo}
-use Rattle.vx_wire_tree.specs.Wire.{Wire, ids_in, buffers_in}
+use Rattle.vx_wire_tree.specs.Wire.{Wire, ids_in}
 use Rattle.vx_wire_tree.specs.Written.{wire, canon}
 use Rattle.vx_wire_tree.proofs.Laws.{matched_written, canon_wire, canon_written, canon_grown, never_untaken, no_plugin_refuses, matched_normal}
 use Rattle.vx_encodings.specs.Messages.{codec}
-use Rattle.vx_serde.specs.declared.options.SerializeOptions.{SerializeOptions}
 use Rattle.vx_serialized.specs.declared.error.WireError.{WireError}
 use Rattle.vx_serialized.specs.declared.error.WireError.TheVariants.{OutOfMemory, TooShort, BadTable, TableLimit, BadAlignment, Compressed, OutOfBounds, UnknownIndex, UnknownEncoding, BadMetadata, BadShape, BadContent, ForeignControl, BadStats, NotPermitted, WireLimit, NotRegistered, NotSerializable, UndeclaredId, PluginRefused}
-use Rattle.vx_serialized.specs.ArraySchema.{array_schema}
-use Rattle.vx_serialized.specs.Blob.{Carries}
-use Rattle.vx_serde.specs.Limits.{message_limits, most_levels}
-use Rattle.vx_serialized.specs.Opening.{RefusesOpening}
-use Rattle.vx_serialized.specs.ReadingSteps.{IsOpened}
+use Rattle.vx_serde.specs.Limits.{most_levels}
 use Rattle.vx_serde.specs.KeptContext.{KeepsContext}
 use Rattle.vx_serde.specs.Spells.{Spells, KeepsReaderLimits, ids_after}
-use Rattle.vx_serde.specs.Placing.{data_from}
-use Rattle.vx_serde.specs.Written.{message_bytes, message_pad, blob_bytes, IsWritable}
+use Rattle.vx_serde.specs.Written.{blob_bytes, IsWritable}
 use Rattle.vx_buffer.specs.Joined.{joined}
-use Rattle.vx_serde.proofs.Carried.{is_blob}
-use Rattle.vx_serialized.specs.Causes.{RefusesWire}
 use Rattle.vx_serialized.specs.Errors.{IsOfReading}
-use Rattle.vx_serde.specs.Causes.{Refuses, RefusesArray, RefusesSpelled, SpellsOne}
+use Rattle.vx_serde.specs.Causes.{Refuses, RefusesReading, RefusesArray, RefusesSpelled, SpellsOne}
 use Rattle.vx_serde.specs.Serializing.{IsWrittenBlob, IsSerialized}
 use Rattle.vx_serde.specs.Request.{Request, IsSpelled}
 use Rattle.vx_serde.specs.Recoding.{Product, IsRecoded, IsFaithful, IsTwiceAsOnce, LeavesContext}
 use Rattle.vx_serde.specs.Taking.{as_written}
-use Rattle.vx_serialized.proofs.LawsOfBlobs.{one_blob}
 use Rattle.vx_serde.proofs.OneArray.{spelled_once}
+use Rattle.vx_serde.proofs.Readable.{written_readable}
 use Rattle.vx_serde.proofs.WrittenAgain.{spelled_again, serialized_again}
 use Rattle.vx_serde.proofs.CanonicalSums.{told_sums}
 use Rattle.vx_serde.proofs.WrittenOwn.{serialized_own}
 use Rattle.vx_serde.proofs.Growing.{kept-same}
 use Rattle.vx_serde.proofs.Taking.{refused_own}
 
--- An opened blob spells the array that its wire tree decodes to.
-pub spells : (asked : Request) (w : Wire) (t : Tree) → IsOpened (message_limits asked.options) asked.blob asked.ids w → DecodesTo codec asked.session w asked.dtype asked.len t → IsSpelled asked t
-spells asked w t opened told = record {
-  wire = w;
-  carried = opened.carried;
-  clean = opened.clean;
-  told = told;
-}
-
-reader_limits : (options : SerializeOptions) (blob : List ℕ) (ids : List (List ℕ)) (w : Wire) → IsOpened (message_limits options) blob ids w → KeepsReaderLimits options blob
-reader_limits options blob ids w opened = record {
-  within_limits = λ segment message is.
-      let P : List ℕ → Type 0 = λ m. KeepsLimits (message_limits options) (weight array_schema m) in
-      subst P (one_blob blob opened.carried.segment segment opened.carried.message message opened.carried.blob_is is).1 opened.within_limits;
-}
-
 -- ---- what is made
 
 -- An array that was read is recoded where it is serialized.
-pub recoded : (asked : Request) (made : Product) → IsLawful codec asked.session → IsPaired asked.session → (read : Wire) → IsOpened (message_limits asked.options) asked.blob asked.ids read
-    → DecodesTo codec asked.session read asked.dtype asked.len made.array → IsSerialized asked.session made.array asked.options asked.context made.context made.buffers → IsRecoded asked made
-recoded asked made law paired read opened told serialized = record {
-  spelled = spells asked read made.array opened told;
-  reader_limits = reader_limits asked.options asked.blob asked.ids read opened;
+pub recoded : (asked : Request) (made : Product) → IsLawful codec asked.session → IsPaired asked.session → IsSpelled asked made.array → KeepsReaderLimits asked.options asked.blob
+    → IsSerialized asked.session made.array asked.options asked.context made.context made.buffers → IsRecoded asked made
+recoded asked made law paired spelled limits serialized = record {
+  spelled = spelled;
+  reader_limits = limits;
   serialized = serialized;
   returned = λ r. serialized_again asked.session law paired made.array asked.context made.context asked.options made.buffers serialized r;
 }
-
--- A blob that was written keeps the limits on reading.
-written_within_limits : (ids : List (List ℕ)) (o : SerializeOptions) (w : Wire) → IsWritable ids o w → KeepsReaderLimits o (blob_bytes ids o w)
-written_within_limits ids o w fit =
-    let bytes = data_from o o.offset (buffers_in w) in
-    let zeros : List ℕ = replicate (message_pad o w) 0 in
-    let own = is_blob bytes zeros (message_bytes ids o w) fit.short in
-    record {
-      within_limits = λ segment message is.
-          let P : List ℕ → Type 0 = λ m. KeepsLimits (message_limits o) (weight array_schema m) in
-          subst P (one_blob (blob_bytes ids o w) (bytes ++ zeros) segment (message_bytes ids o w) message own is).1 fit.within_limits;
-    }
 
 is_some : {A : Type 0} (o : Option A) (x : A) → o ≡ Some x → IsSome o
 is_some None x e = absurd (cc)
@@ -126,7 +87,7 @@ twice asked made ok law spelled blob again =
       can = record {
         array = canon codec s t;
         spelled = again;
-        reader_limits = subst Q (sym blob.written) (written_within_limits (ids_after s t asked.context) o (wire codec s t) blob.limits.writable);
+        reader_limits = subst Q (sym blob.written) (written_readable (ids_after s t asked.context) o (wire codec s t) blob.limits.writable);
         writer_limits = record {
           messages = subst (λ (z : Tree). HasMessages z) (sym (canon_written codec s t sound normal)) (written_messages t blob.limits.messages);
           writable = subst P (sym own) blob.limits.writable;
@@ -174,30 +135,24 @@ left-written asked law t after spelled keeps own = record {
 
 -- ---- causes
 
--- A blob that is not opened.
-pub caused_by_blob : (asked : Request) (e : WireError) → RefusesOpening (message_limits asked.options) e asked.blob → Refuses asked e
-caused_by_blob asked OutOfMemory u = tt
-caused_by_blob asked TooShort u = u
-caused_by_blob asked BadTable u = u
-caused_by_blob asked TableLimit u = u
-caused_by_blob asked BadAlignment u = u
-caused_by_blob asked Compressed u = u
-caused_by_blob asked OutOfBounds u = inl u
-caused_by_blob asked _ u = absurd u
-
--- A wire tree that decodes to no array.
-pub caused_by_tree : (asked : Request) (e : WireError) (w : Wire) → Carries asked.blob asked.ids w → RefusesWire asked.session e w asked.dtype asked.len → Refuses asked e
-caused_by_tree asked OutOfMemory w carried u = tt
-caused_by_tree asked OutOfBounds w carried u = inr (record { wire = w; carried = carried; cause = u })
-caused_by_tree asked UnknownIndex w carried u = record { wire = w; carried = carried; cause = u }
-caused_by_tree asked UnknownEncoding w carried u = record { wire = w; carried = carried; cause = u }
-caused_by_tree asked BadMetadata w carried u = record { wire = w; carried = carried; cause = u }
-caused_by_tree asked BadShape w carried u = record { wire = w; carried = carried; cause = u }
-caused_by_tree asked BadContent w carried u = record { wire = w; carried = carried; cause = u }
-caused_by_tree asked ForeignControl w carried u = record { wire = w; carried = carried; cause = u }
-caused_by_tree asked BadStats w carried u = record { wire = w; carried = carried; cause = u }
-caused_by_tree asked PluginRefused w carried u = (λ ok. no_plugin_refuses codec asked.session ok w asked.dtype asked.len u, inl (record { wire = w; carried = carried; cause = u }))
-caused_by_tree asked _ w carried u = absurd u
+-- A blob that is not read.
+pub caused_by_reading : (asked : Request) (e : WireError) → RefusesReading asked e → Refuses asked e
+caused_by_reading asked OutOfMemory u = u
+caused_by_reading asked TooShort u = u
+caused_by_reading asked BadTable u = u
+caused_by_reading asked TableLimit u = u
+caused_by_reading asked BadAlignment u = u
+caused_by_reading asked Compressed u = u
+caused_by_reading asked OutOfBounds u = u
+caused_by_reading asked UnknownIndex u = u
+caused_by_reading asked UnknownEncoding u = u
+caused_by_reading asked BadMetadata u = u
+caused_by_reading asked BadShape u = u
+caused_by_reading asked BadContent u = u
+caused_by_reading asked ForeignControl u = u
+caused_by_reading asked BadStats u = u
+caused_by_reading asked PluginRefused u = (λ ok. no_plugin_refuses codec asked.session ok u.wire asked.dtype asked.len u.cause, inl u)
+caused_by_reading asked _ u = absurd u
 
 -- What was read by encodings alone has writers.
 has_writers : (asked : Request) → IsLawful codec asked.session → IsPaired asked.session → (t : Tree) → IsSpelled asked t → (why : Unwritten) → HasUntaken asked.session (most_levels asked.options) why t → IsShipped asked.session → ⊥

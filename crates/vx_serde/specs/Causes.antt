@@ -5,24 +5,19 @@ use Rattle.vx_array_tree.specs.Tree.{Tree}
 use Rattle.vx_wire_tree.specs.Context.{Context, grown}
 use Rattle.vx_wire_tree.specs.Session.{SessionMeaning, IsShipped}
 use Rattle.vx_wire_tree.specs.Taken.{IsTaken, HasUntaken}
-use Rattle.vx_wire_tree.specs.Wire.{Wire}
 use Rattle.vx_encodings.specs.Messages.{codec}
 use Rattle.vx_serde.specs.declared.options.SerializeOptions.{SerializeOptions}
 use Rattle.vx_serialized.specs.declared.error.WireError.{WireError}
 use Rattle.vx_serialized.specs.declared.error.WireError.TheVariants.{OutOfMemory, TooShort, BadTable, TableLimit, BadAlignment, Compressed, OutOfBounds, UnknownIndex, UnknownEncoding, BadMetadata, BadShape, BadContent, ForeignControl, BadStats, NotPermitted, WireLimit, NotRegistered, NotSerializable, UndeclaredId, PluginRefused}
-use Rattle.vx_serialized.specs.Blob.{Carries}
+use Rattle.vx_serialized.specs.Carried.{RefusesBlob}
 use Rattle.vx_serde.specs.Limits.{message_limits, most_levels}
-use Rattle.vx_serialized.specs.Causes.{RefusesWire}
-use Rattle.vx_serialized.specs.Opening.{RefusesOpening}
 use Rattle.vx_serde.specs.Spells.{KeepsWriterLimits}
 use Rattle.vx_serde.specs.Taking.{as_written, unwritten_by}
 use Rattle.vx_serde.specs.Request.{Request, IsSpelled}
 
--- The blob carries a wire tree that decodes to no array.
-pub record RefusesCarried (asked : Request) (e : WireError) : Type 0 where
-  pub wire : Wire
-  pub carried : Carries asked.blob asked.ids wire
-  pub cause : RefusesWire asked.session e wire asked.dtype asked.len
+-- Why the blob is not read as it is asked.
+abbrev pub RefusesReading : Request → WireError → Type 0
+RefusesReading asked e = RefusesBlob (message_limits asked.options) asked.session e asked.blob asked.ids asked.dtype asked.len
 
 -- The blob spells an array of which this holds.
 pub record SpellsOne (asked : Request) (P : Tree → Type 0) : Type 0 where
@@ -60,28 +55,28 @@ pub record RefusesSpelled (asked : Request) (e : WireError) (t : Tree) : Type 0 
   pub written : RefusesArray asked.session t asked.context asked.options e
   pub own : IsShipped asked.session → RefusesWriting asked.session t asked.context asked.options e
 
--- Why `recode` refuses: by the refusal. Allocation failure has no other cause. The blob's own faults come first, then
--- those of its nodes, then those of the array that it spells: an identifier that the context does not take, a limit on
--- writing, or a node of it that is not written. Where no plugin reads or writes, what is read is also written: then no
--- node is without a writer, and no plugin refuses.
+-- Why `recode` refuses: by the refusal. The refusals of reading come first: allocation failure, the blob's own faults and
+-- those of its nodes. Then come those of the array that it spells: an identifier that the context does not take, a limit
+-- on writing, or a node of it that is not written. Where no plugin reads or writes, what is read is also written: then
+-- no node is without a writer, and no plugin refuses.
 abbrev pub Refuses : Request → WireError → Type 0
-Refuses asked OutOfMemory = Unit {0}
-Refuses asked TooShort = RefusesOpening (message_limits asked.options) TooShort asked.blob
-Refuses asked BadTable = RefusesOpening (message_limits asked.options) BadTable asked.blob
-Refuses asked TableLimit = RefusesOpening (message_limits asked.options) TableLimit asked.blob
-Refuses asked BadAlignment = RefusesOpening (message_limits asked.options) BadAlignment asked.blob
-Refuses asked Compressed = RefusesOpening (message_limits asked.options) Compressed asked.blob
-Refuses asked OutOfBounds = RefusesOpening (message_limits asked.options) OutOfBounds asked.blob ⊎ RefusesCarried asked OutOfBounds
-Refuses asked UnknownIndex = RefusesCarried asked UnknownIndex
-Refuses asked UnknownEncoding = RefusesCarried asked UnknownEncoding
-Refuses asked BadMetadata = RefusesCarried asked BadMetadata
-Refuses asked BadShape = RefusesCarried asked BadShape
-Refuses asked BadContent = RefusesCarried asked BadContent
-Refuses asked ForeignControl = RefusesCarried asked ForeignControl
-Refuses asked BadStats = RefusesCarried asked BadStats
+Refuses asked OutOfMemory = RefusesReading asked OutOfMemory
+Refuses asked TooShort = RefusesReading asked TooShort
+Refuses asked BadTable = RefusesReading asked BadTable
+Refuses asked TableLimit = RefusesReading asked TableLimit
+Refuses asked BadAlignment = RefusesReading asked BadAlignment
+Refuses asked Compressed = RefusesReading asked Compressed
+Refuses asked OutOfBounds = RefusesReading asked OutOfBounds
+Refuses asked UnknownIndex = RefusesReading asked UnknownIndex
+Refuses asked UnknownEncoding = RefusesReading asked UnknownEncoding
+Refuses asked BadMetadata = RefusesReading asked BadMetadata
+Refuses asked BadShape = RefusesReading asked BadShape
+Refuses asked BadContent = RefusesReading asked BadContent
+Refuses asked ForeignControl = RefusesReading asked ForeignControl
+Refuses asked BadStats = RefusesReading asked BadStats
 Refuses asked NotPermitted = SpellsOne asked (λ t. RefusesSpelled asked NotPermitted t)
 Refuses asked WireLimit = SpellsOne asked (λ t. RefusesSpelled asked WireLimit t)
 Refuses asked NotRegistered = (IsShipped asked.session → ⊥) × SpellsOne asked (λ t. RefusesArray asked.session t asked.context asked.options NotRegistered)
 Refuses asked NotSerializable = (IsShipped asked.session → ⊥) × SpellsOne asked (λ t. RefusesArray asked.session t asked.context asked.options NotSerializable)
 Refuses asked UndeclaredId = (IsShipped asked.session → ⊥) × SpellsOne asked (λ t. RefusesArray asked.session t asked.context asked.options UndeclaredId)
-Refuses asked PluginRefused = (IsShipped asked.session → ⊥) × (RefusesCarried asked PluginRefused ⊎ SpellsOne asked (λ t. RefusesArray asked.session t asked.context asked.options PluginRefused))
+Refuses asked PluginRefused = (IsShipped asked.session → ⊥) × (RefusesReading asked PluginRefused ⊎ SpellsOne asked (λ t. RefusesArray asked.session t asked.context asked.options PluginRefused))

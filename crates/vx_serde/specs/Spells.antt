@@ -2,8 +2,6 @@
 use Rattle.std.specs.Prelude.{ℕ, List}
 use Rattle.vx_types.specs.Typ.{Typ}
 use Rattle.vx_buffer.specs.Buffer.{Buffer}
-use Rattle.vx_flat.specs.Weight.{weight}
-use Rattle.vx_flat.specs.Limits.{KeepsLimits}
 use Rattle.vx_array_tree.specs.Tree.{Tree}
 use Rattle.vx_wire_tree.specs.Context.{Context, with_ids}
 use Rattle.vx_wire_tree.specs.Limits.{HasMessages}
@@ -13,9 +11,9 @@ use Rattle.vx_wire_tree.specs.Wire.{Wire, ids_in}
 use Rattle.vx_wire_tree.specs.Written.{wire}
 use Rattle.vx_encodings.specs.Messages.{codec}
 use Rattle.vx_serde.specs.declared.options.SerializeOptions.{SerializeOptions}
-use Rattle.vx_serialized.specs.ArraySchema.{array_schema}
 use Rattle.vx_serialized.specs.Message.{message_of}
-use Rattle.vx_serialized.specs.Blob.{IsBlob, Carries, AreClean}
+use Rattle.vx_serialized.specs.Blob.{Carries, AreClean}
+use Rattle.vx_serialized.specs.Carried.{IsWithinLimits}
 use Rattle.vx_serde.specs.Limits.{message_limits}
 use Rattle.vx_serde.specs.Written.{blob_bytes, IsWritable}
 use Rattle.vx_serde.specs.WrittenBuffers.{written_buffers}
@@ -28,9 +26,9 @@ pub record Spells (blob : List ℕ) (ids : List (List ℕ)) (d : Typ) (n : ℕ) 
   pub clean : AreClean carried.segment (message_of carried.value).descriptors
   pub told : DecodesTo codec s wire d n t
 
--- A blob's message keeps the limits on reading.
-pub record KeepsReaderLimits (options : SerializeOptions) (blob : List ℕ) : Type 0 where
-  pub within_limits : (segment message : List ℕ) → IsBlob blob segment message → KeepsLimits (message_limits options) (weight array_schema message)
+-- A blob's message keeps the limits on reading, as the options have them.
+abbrev pub KeepsReaderLimits : SerializeOptions → List ℕ → Type 0
+KeepsReaderLimits options blob = IsWithinLimits (message_limits options) blob
 
 -- The identifiers by which an array is written under a context.
 abbrev pub ids_after : SessionMeaning → Tree → Context → List (List ℕ)

@@ -1,7 +1,7 @@
 //! The laws of this crate's definitions. The functions have empty bodies: a caller learns a law from the clause of its
 //! function.
 
-ghost use Rattle.std.specs.Prelude.{◌≡◌, ℕ, List, Some, ◌+◌, ◌%◌, ◌<◌, ◌≤◌, IsTrue};
+ghost use Rattle.std.specs.Prelude.{◌≡◌, ℕ, List, ◌++◌, Some, ◌+◌, ◌%◌, ◌<◌, ◌≤◌, IsTrue};
 ghost use Rattle.vx_serde.specs.declared.options.SerializeOptions.{SerializeOptions};
 ghost use Rattle.vx_buffer.specs.Buffer.{Buffer};
 ghost use Rattle.vx_serde.specs.Aligned.{AreAligned};
@@ -10,7 +10,11 @@ ghost use Rattle.vx_wire_tree.specs.Codec.{IsLawful};
 ghost use Rattle.vx_wire_tree.specs.Wire.{Wire};
 ghost use Rattle.vx_encodings.specs.Messages.{codec};
 ghost use Rattle.vx_serialized.specs.Blob.{Carries};
-ghost use Rattle.vx_serde.specs.Spells.{Spells, blob_of, KeepsWriterLimits};
+ghost use Rattle.vx_serialized.specs.Carried.{IsWithinLimits, RefusesBlob};
+ghost use Rattle.vx_serialized.specs.declared.error.WireError.{WireError};
+ghost use Rattle.vx_serialized.specs.declared.error.WireError.TheVariants.{OutOfMemory};
+ghost use Rattle.vx_flat.specs.declared.limits.Limits.{Limits};
+ghost use Rattle.vx_serde.specs.Spells.{Spells, blob_of, KeepsReaderLimits, KeepsWriterLimits};
 ghost use Rattle.vx_serde.specs.Returning.{IsReturnable};
 ghost use Rattle.vx_serde.specs.Serializing.{IsSerialized, ReturnsWhole};
 ghost use Rattle.vx_wire_tree.specs.ReadBack.{HasStorableStats};
@@ -36,6 +40,25 @@ pub fn one_array()
 pub fn spelled_is_normal()
     ensures { (blob : List ℕ) (ids : List (List ℕ)) (d : Typ) (n : ℕ) (s : SessionMeaning) (t : Tree)
         → IsShipped s → IsLawful codec s → Spells blob ids d n s t → IsNormal t }
+{}
+
+/// A blob spells the same array where more identifiers come after those that it is read with.
+pub fn spelled_longer()
+    ensures { (blob : List ℕ) (ids others : List (List ℕ)) (d : Typ) (n : ℕ) (s : SessionMeaning) (t : Tree)
+        → Spells blob ids d n s t → Spells blob (ids ++ others) d n s t }
+{}
+
+/// A blob that spells an array within the limits on reading is refused with no cause but allocation failure.
+pub fn never_refused()
+    ensures { (most : Limits) (s : SessionMeaning) (blob : List ℕ) (ids : List (List ℕ)) (d : Typ) (n : ℕ) (t : Tree) (e : WireError)
+        → IsLawful codec s → Spells blob ids d n s t → IsWithinLimits most blob
+        → RefusesBlob most s e blob ids d n → e ≡ OutOfMemory }
+{}
+
+/// The blob that is written for an array within the limits on writing keeps the limits on reading.
+pub fn written_within_limits()
+    ensures { (s : SessionMeaning) (t : Tree) (context : Context) (options : SerializeOptions)
+        → KeepsWriterLimits s t context options → KeepsReaderLimits options (blob_of s t context options) }
 {}
 
 /// What is written of an array that was read, whose statistics can be stored, under limits that hold, spells what is

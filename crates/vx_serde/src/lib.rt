@@ -11,6 +11,7 @@ mod node_ref;
 mod nodes;
 mod options;
 mod placing;
+mod reading;
 mod recoding;
 mod serializing;
 mod taken;
@@ -18,8 +19,9 @@ mod writing;
 
 pub use array_node::ArrayNodeFlatBuffer;
 pub use options::SerializeOptions;
+pub use reading::read_blob;
 pub use recoding::{Recoded, recode};
 pub use serializing::ArrayExt;
 pub use vx_serialized::{
-    ArrayKind, BufferLengths, Descriptor, SerializedArray, SerializedNode, WireError,
+    ArrayKind, BlobRefusal, BufferLengths, Descriptor, SerializedArray, SerializedNode, WireError,
 };

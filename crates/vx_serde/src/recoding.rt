@@ -9,12 +9,13 @@ ghost use Rattle.vx_serde.specs.Causes.{Refuses};
 ghost use Rattle.vx_serialized.specs.Errors.{IsOfReading};
 
 use crate::options::SerializeOptions;
+use crate::reading::read_blob;
 use crate::serializing::ArrayExt;
 use std::alloc::Global;
 use vx_arrays::Array;
 use vx_buffer::{ByteBuffer, ByteBuffers};
 use vx_registry::{ArrayContext, ReadContext, VortexSession};
-use vx_serialized::{SerializedArray, WireError};
+use vx_serialized::WireError;
 use vx_types::DType;
 
 /// An array that was read from a blob, and the blob that is written for it.
@@ -67,10 +68,7 @@ pub fn recode(
         let asked = request blob dtype.now len read_ids.now ctx.old s options.now in
         IfErr result (Refuses asked) }
 {
-    let serialized = SerializedArray::try_from_buffer_to(alloc, blob, options.deep)?;
-    let array = serialized.decode(alloc, dtype, len, read_ids, session)?;
-    // What was read is not needed any more, so the new blob can take its memory.
-    drop(serialized);
+    let array = read_blob(alloc, blob, dtype, len, read_ids, session, options.deep)?;
     let buffers = array.serialize(alloc, ctx, session, options)?;
     Ok(Recoded { array, buffers })
 }

@@ -11,6 +11,8 @@ pub mod laws;
 #[cfg(test)]
 mod nodes;
 #[cfg(test)]
+mod reading;
+#[cfg(test)]
 mod texts;
 #[cfg(test)]
 mod writing;

@@ -12,3 +12,4 @@ mod EntrySteps
 pub mod LawsOfAnswers
 pub mod LawsOfBlobs
 pub mod LawsOfTrees
+pub mod LawsOfRefusals

@@ -9,6 +9,8 @@ pub mod Opening
 pub mod Overrides
 pub mod Stored
 pub mod Causes
+pub mod Carried
+pub mod Refusals
 -- What only the contracts of private functions cite.
 pub mod Decoding
 pub mod ReadingSteps

@@ -8,8 +8,8 @@ use Rattle.vx_buffer.specs.Joined.{joined}
 use Rattle.vxcat_core.specs.declared.recode.steps.Outputs.{Outputs}
 use Rattle.vxcat_core.specs.declared.print.PrintError.{PrintError}
 use Rattle.vxcat_core.specs.declared.print.PrintError.TheVariants as print_error
-use Rattle.vxcat_core.specs.declared.status.BlobRefusal.{BlobRefusal}
-use Rattle.vxcat_core.specs.declared.status.BlobRefusal.TheVariants as refusal
+use Rattle.vx_serialized.specs.declared.refusal.BlobRefusal.{BlobRefusal}
+use Rattle.vx_serialized.specs.declared.refusal.BlobRefusal.TheVariants as refusal
 use Rattle.vxcat_core.specs.declared.status.Status.{Status}
 use Rattle.vxcat_core.specs.declared.status.Status.TheVariants.{Done, OutOfMemory, NoCommand, LoadFault, SaveFault, WriteFault, BadType, BadIds, BadExpression, Refused}
 use Rattle.vxcat_core.specs.ExprCommand.{EndsExpr}
@@ -17,7 +17,8 @@ use Rattle.vxcat_core.specs.Listing.{listing}
 use Rattle.vxcat_core.specs.Recode.{AreInputs, AreSaved, CanRecodeInputs, EndsRecode, RefusesInputs, KeepsOthers, Loaded, Recode, SavesInOrder, Work, inputs}
 use Rattle.vxcat_core.specs.RunState.{IsUntouched, Run, run_of}
 use Rattle.vxcat_core.specs.SinkState.{SinkState}
-use Rattle.vxcat_core.specs.Status.{status_number, wire_error}
+use Rattle.vx_serialized.specs.Refusals.{wire_error}
+use Rattle.vxcat_core.specs.Status.{status_number}
 use Rattle.vxcat_core.specs.StoreState.{AskedOnly, HasRisen, StoreState}
 use Rattle.vxcat_core.specs.Written.{AppendsPrefix}
 use Rattle.vxcat_core.specs.RecodeViews.{AreOutputs, RefusesLoad, RefusesSave}

@@ -12,6 +12,7 @@ mod OptionFronts
 mod OptionSettings
 mod Outcomes
 mod OwnNames
+mod BlobStatuses
 mod Recodings
 mod RowTexts
 mod Sessions

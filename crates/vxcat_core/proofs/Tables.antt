@@ -1,5 +1,5 @@
 -- The table of a seed keeps the limits on writing, and its blob spells it.
-use Rattle.std.proofs.Common.{ℕ, zero, suc, ◌≡◌, ◌+◌, ◌*◌, ◌/◌, ◌<◌, ◌≤◌, ◌^◌, ◌%◌, Bool, true, false, List, [], ◌∷◌, ◌++◌, Option, None, Some, inl, inr, length, replicate, is_some, refl, sym, ap, ◌∙◌, subst, arith}
+use Rattle.std.proofs.Common.{ℕ, zero, suc, ◌≡◌, ◌+◌, ◌*◌, ◌/◌, ◌<◌, ◌≤◌, ◌^◌, ◌%◌, Bool, true, false, List, [], ◌∷◌, ◌++◌, Option, None, Some, inl, inr, length, is_some, refl, sym, ap, ◌∙◌, subst, arith}
 use Rattle.std.specs.Prelude.{nat_lt, ◌==◌, if◌then◌else◌}
 use Rattle.std.proofs.lemmas.List.{length-append}
 use Rattle.std.proofs.lemmas.List.Elements.{All-from_recursion}
@@ -58,17 +58,18 @@ use Rattle.vx_serialized.specs.declared.message.Descriptor.{Descriptor}
 use Rattle.vx_serialized.specs.Message.{NodeFields}
 use Rattle.vx_serde.specs.MessageValue.{node_value, message_value, descriptors_bytes}
 use Rattle.vx_serde.specs.Numbered.{numbered}
-use Rattle.vx_serde.specs.Placing.{descriptors_from, data_from, data_end}
+use Rattle.vx_serde.specs.Placing.{descriptors_from, data_end}
 use Rattle.vx_serde.specs.Causes.{RefusesArray}
 use Rattle.vx_serialized.specs.declared.error.WireError.{WireError}
 use Rattle.vx_serialized.specs.declared.error.WireError.TheVariants as wire_error
 use Rattle.vx_serde.specs.Request.{CanRecode}
 use Rattle.vx_serde.specs.Limits.{most_levels}
 use Rattle.vx_serde.specs.Serializing.{IsSerialized, IsWrittenBlob}
-use Rattle.vx_serde.specs.Spells.{Spells, KeepsReaderLimits, KeepsWriterLimits, blob_of, ids_after}
+use Rattle.vx_serde.specs.Spells.{Spells, KeepsReaderLimits, KeepsWriterLimits, ids_after}
 use Rattle.vx_serde.specs.Taking.{as_written}
-use Rattle.vx_serde.specs.Written.{message_bytes, message_pad, blob_bytes, IsWritable}
-use Rattle.vx_serde.proofs.LawsOfWriting.{is_blob, shows-layout, one_blob, length-blob, message_value_is_of, placed_from_ids, numbered_fits, wire-tabled, wire-whole, told_spelled, grown_by-placed}
+use Rattle.vx_serde.specs.Written.{message_bytes, IsWritable}
+use Rattle.vx_serde.proofs.LawsOfReading.{written_within_limits}
+use Rattle.vx_serde.proofs.LawsOfWriting.{shows-layout, length-blob, message_value_is_of, placed_from_ids, numbered_fits, wire-tabled, wire-whole, told_spelled, grown_by-placed}
 use Rattle.vxcat_core.specs.MakeCommand.{make_options, make_session, no_ids}
 use Rattle.vxcat_core.proofs.OwnNames.{wire_named, read_named}
 use Rattle.vx_generator.specs.Columns.{columns}
@@ -409,25 +410,12 @@ module _ (seed rows : ℕ) (h : rows ≤ 1000000) where
         subst (λ (b : List ℕ). Spells b after.ids (label t).dtype (label t).len make_session t) (sym blob.written)
         (told_spelled make_session t no_ids after make_options blob.grown_is blob.limits (label t).dtype (label t).len t table_told)
 
-    written_within_limits : KeepsReaderLimits make_options (blob_of make_session t no_ids make_options)
-    written_within_limits =
-        let ids = ids_after make_session t no_ids in
-        let bytes = data_from make_options 0 (buffers_in w) in
-        let zeros : List ℕ = replicate (message_pad make_options w) 0 in
-        let fit = blob.limits.writable in
-        let own = is_blob bytes zeros (message_bytes ids make_options w) fit.short in
-        record {
-          within_limits = λ segment message is.
-              let P : List ℕ → Type 0 = λ m. KeepsLimits limits (weight array_schema m) in
-              subst P (one_blob (blob_bytes ids make_options w) (bytes ++ zeros) segment (message_bytes ids make_options w) message own is).1 fit.within_limits;
-        }
-
     -- It can be recoded.
     pub table_again : CanRecode (record { blob = joined buffers; dtype = (label t).dtype; len = (label t).len; ids = after.ids; context = no_ids; options = make_options; session = make_session })
     table_again = record {
       array = t;
       spelled = table_spelled;
-      reader_limits = subst (λ (b : List ℕ). KeepsReaderLimits make_options b) (sym blob.written) written_within_limits;
+      reader_limits = subst (λ (b : List ℕ). KeepsReaderLimits make_options b) (sym blob.written) (written_within_limits make_session t no_ids make_options blob.limits);
       writer_limits = blob.limits;
       grows = ap is_some blob.grown_is;
     }

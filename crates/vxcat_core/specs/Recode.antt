@@ -20,7 +20,7 @@ use Rattle.vxcat_core.specs.IdFile.{ReadsIds, id_text}
 use Rattle.vxcat_core.specs.Listing.{listing}
 use Rattle.vxcat_core.specs.Options.{AreOptions, Setting, Settings, setting_words, settings_of}
 use Rattle.vxcat_core.specs.RunState.{IsUntouched, Prints, PrintsPrefix, Run}
-use Rattle.vxcat_core.specs.Status.{wire_error}
+use Rattle.vx_serialized.specs.Refusals.{wire_error}
 use Rattle.vxcat_core.specs.StoreState.{AskedOnly, HasRisen, Stands, StoreState}
 
 -- ---- the words

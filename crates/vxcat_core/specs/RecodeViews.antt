@@ -14,7 +14,7 @@ use Rattle.vxcat_core.specs.declared.status.Status.{Status}
 use Rattle.vxcat_core.specs.declared.status.Status.TheVariants.{OutOfMemory, LoadFault, SaveFault, BadType, BadIds, Refused}
 use Rattle.vxcat_core.specs.GivenOptions.{given_in, settings_by}
 use Rattle.vxcat_core.specs.Recode.{IsMade, Loaded, Recode}
-use Rattle.vxcat_core.specs.Status.{wire_error}
+use Rattle.vx_serialized.specs.Refusals.{wire_error}
 use Rattle.vxcat_core.specs.StoreState.{HasRisen, StoreState}
 
 -- The line of the words.

@@ -11,7 +11,7 @@ use Rattle.vxcat_core.specs.declared.print.PrintError.{PrintError}
 use Rattle.vxcat_core.specs.declared.print.PrintError.TheVariants as print_error
 use Rattle.vxcat_core.specs.declared.id_file.IdFileError.{IdFileError}
 use Rattle.vxcat_core.specs.declared.id_file.IdFileError.TheVariants as id_error
-use Rattle.vxcat_core.specs.declared.status.BlobRefusal.TheVariants as refusal
+use Rattle.vx_serialized.specs.declared.refusal.BlobRefusal.TheVariants as refusal
 use Rattle.vxcat_core.specs.declared.status.Status.{Status}
 use Rattle.vxcat_core.specs.declared.status.Status.TheVariants.{OutOfMemory, LoadFault, SaveFault, WriteFault, BadType, BadIds, BadExpression, Refused}
 

@@ -1,68 +1,15 @@
 //! The statuses with which the program ends, and their numbers.
 
 ghost use Rattle.std.specs.Prelude.{◌≡◌};
-ghost use Rattle.vxcat_core.specs.Status.{status_number, wire_error};
+ghost use Rattle.vxcat_core.specs.Status.{status_number};
 ghost use Rattle.vxcat_core.specs.Statuses.{load_status, save_status, print_status, type_status, id_status, expr_status, blob_status};
 
 use crate::id_file::IdFileError;
 use crate::print::PrintError;
 use crate::store::StoreError;
 use vx_fn_wire::FnWireError;
-use vx_serde::WireError;
+use vx_serde::{BlobRefusal, WireError};
 use vx_type_wire::TypeWireError;
-
-/// Why a blob is not recoded, apart from allocation failure: the other refusals of `WireError`.
-#[derive(Clone, Copy, Debug, PartialEq, Eq)]
-pub enum BlobRefusal {
-    TooShort,
-    BadTable,
-    TableLimit,
-    BadAlignment,
-    Compressed,
-    OutOfBounds,
-    UnknownIndex,
-    UnknownEncoding,
-    BadMetadata,
-    BadShape,
-    BadContent,
-    ForeignControl,
-    BadStats,
-    NotPermitted,
-    WireLimit,
-    NotRegistered,
-    NotSerializable,
-    UndeclaredId,
-    PluginRefused,
-}
-
-impl BlobRefusal {
-    /// The refusal as a `WireError`.
-    pub fn wire_error(self) -> WireError
-        ensures { result ≡ wire_error self }
-    {
-        match self {
-            BlobRefusal::TooShort => WireError::TooShort,
-            BlobRefusal::BadTable => WireError::BadTable,
-            BlobRefusal::TableLimit => WireError::TableLimit,
-            BlobRefusal::BadAlignment => WireError::BadAlignment,
-            BlobRefusal::Compressed => WireError::Compressed,
-            BlobRefusal::OutOfBounds => WireError::OutOfBounds,
-            BlobRefusal::UnknownIndex => WireError::UnknownIndex,
-            BlobRefusal::UnknownEncoding => WireError::UnknownEncoding,
-            BlobRefusal::BadMetadata => WireError::BadMetadata,
-            BlobRefusal::BadShape => WireError::BadShape,
-            BlobRefusal::BadContent => WireError::BadContent,
-            BlobRefusal::ForeignControl => WireError::ForeignControl,
-            BlobRefusal::BadStats => WireError::BadStats,
-            BlobRefusal::NotPermitted => WireError::NotPermitted,
-            BlobRefusal::WireLimit => WireError::WireLimit,
-            BlobRefusal::NotRegistered => WireError::NotRegistered,
-            BlobRefusal::NotSerializable => WireError::NotSerializable,
-            BlobRefusal::UndeclaredId => WireError::UndeclaredId,
-            BlobRefusal::PluginRefused => WireError::PluginRefused,
-        }
-    }
-}
 
 /// How a run of the program ends.
 #[derive(Clone, Copy, Debug, PartialEq, Eq)]
@@ -186,27 +133,9 @@ impl Status {
     pub fn of_blob(error: WireError) -> Status
         ensures { result ≡ blob_status error }
     {
-        match error {
-            WireError::OutOfMemory => Status::OutOfMemory,
-            WireError::TooShort => Status::Refused(BlobRefusal::TooShort),
-            WireError::BadTable => Status::Refused(BlobRefusal::BadTable),
-            WireError::TableLimit => Status::Refused(BlobRefusal::TableLimit),
-            WireError::BadAlignment => Status::Refused(BlobRefusal::BadAlignment),
-            WireError::Compressed => Status::Refused(BlobRefusal::Compressed),
-            WireError::OutOfBounds => Status::Refused(BlobRefusal::OutOfBounds),
-            WireError::UnknownIndex => Status::Refused(BlobRefusal::UnknownIndex),
-            WireError::UnknownEncoding => Status::Refused(BlobRefusal::UnknownEncoding),
-            WireError::BadMetadata => Status::Refused(BlobRefusal::BadMetadata),
-            WireError::BadShape => Status::Refused(BlobRefusal::BadShape),
-            WireError::BadContent => Status::Refused(BlobRefusal::BadContent),
-            WireError::ForeignControl => Status::Refused(BlobRefusal::ForeignControl),
-            WireError::BadStats => Status::Refused(BlobRefusal::BadStats),
-            WireError::NotPermitted => Status::Refused(BlobRefusal::NotPermitted),
-            WireError::WireLimit => Status::Refused(BlobRefusal::WireLimit),
-            WireError::NotRegistered => Status::Refused(BlobRefusal::NotRegistered),
-            WireError::NotSerializable => Status::Refused(BlobRefusal::NotSerializable),
-            WireError::UndeclaredId => Status::Refused(BlobRefusal::UndeclaredId),
-            WireError::PluginRefused => Status::Refused(BlobRefusal::PluginRefused),
+        match error.refusal() {
+            None => Status::OutOfMemory,
+            Some(refusal) => Status::Refused(refusal),
         }
     }
 }
