@@ -8,7 +8,7 @@ use vx_buffer::BufferHandles;
 use vx_encodings::Encoding;
 use vx_registry::{
     ArrayContext, ArrayDeserialization, ArraySerialization, ArraySession, Entry, PluginEntry,
-    RegistryError, VortexSession,
+    ReadContext, RegistryError, VortexSession,
 };
 use vx_type_wire::ExtSession;
 use vx_types::{Blob, DType, Id, Ids, PType, TypeError};
@@ -98,6 +98,71 @@ fn only_allowed_identifiers_come(rt: HostRuntime) {
     assert!(rt; is_limited(rt.alloc(), "a", Some(0)) == Ok(true));
     assert!(rt; is_limited(rt.alloc(), "b", None) == Ok(true));
     assert!(rt; is_limited(rt.alloc(), "c", None) == Ok(true));
+}
+
+// Whether that context, with `c` in it and then truncated to `len` identifiers, has these.
+fn is_cut(alloc: Global, len: usize, texts: &[&str]) -> Result<bool, RegistryError> {
+    let mut context = begun(alloc)?;
+    let place = place_in(alloc, &mut context, "c");
+    let grown = context.len() == 3 && context.get(2).map(|id| id.as_str()) == Some("c");
+    context.truncate(len);
+    let cut = context.len() == texts.len() && has_ids(alloc, &context, texts);
+    drop(context);
+    Ok(place == Ok(Some(2)) && grown && cut)
+}
+
+#[test]
+fn a_context_is_truncated_to_what_it_was(rt: HostRuntime) {
+    assert!(rt; is_cut(rt.alloc(), 2, &["a", "b"]) == Ok(true));
+    assert!(rt; is_cut(rt.alloc(), 0, &[]) == Ok(true));
+    assert!(rt; is_cut(rt.alloc(), 9, &["a", "b", "c"]) == Ok(true));
+}
+
+// The numbers that `b` and `a` get in the limited context without identifiers.
+fn places_in_a_cut_one(alloc: Global) -> Result<(Option<u16>, Option<u16>), RegistryError> {
+    let mut context = limited(alloc)?;
+    context.truncate(0);
+    let b = place_in(alloc, &mut context, "b");
+    let a = place_in(alloc, &mut context, "a");
+    drop(context);
+    Ok((b?, a?))
+}
+
+#[test]
+fn a_truncated_context_allows_what_it_did(rt: HostRuntime) {
+    assert!(rt; places_in_a_cut_one(rt.alloc()) == Ok((None, Some(0))));
+}
+
+// The identifiers `a` and `b` of a reader.
+fn reader(alloc: Global) -> Result<ReadContext, RegistryError> {
+    match list_of(alloc, &["a", "b"]) {
+        Ok(ids) => Ok(ReadContext::new(ids)),
+        Err(_) => Err(RegistryError::OutOfMemory),
+    }
+}
+
+// Whether the identifier of a number is this one.
+fn resolves(read: &ReadContext, index: u16, text: Option<&str>) -> bool {
+    read.resolve(index).map(|id| id.as_str()) == text
+}
+
+// Whether a reader's identifiers grow by one at the end, and are as they were once they are truncated.
+fn grows_and_goes_back(alloc: Global) -> Result<bool, RegistryError> {
+    let mut read = reader(alloc)?;
+    let pushed = match Id::new(alloc, "b") {
+        Ok(id) => read.push(id),
+        Err(_) => Err(RegistryError::OutOfMemory),
+    };
+    let grown = read.len() == 3 && resolves(&read, 2, Some("b"));
+    read.truncate(2);
+    let kept = read.len() == 2 && resolves(&read, 1, Some("b")) && resolves(&read, 2, None);
+    drop(read);
+    Ok(pushed == Ok(()) && grown && kept)
+}
+
+#[test]
+fn a_reader_goes_back_to_the_identifiers_that_it_had(rt: HostRuntime) {
+    assert!(rt; grows_and_goes_back(rt.alloc()) == Ok(true));
 }
 
 // Registers numbers, twice.

@@ -4,7 +4,7 @@ use Rattle.std.proofs.lemmas.Option.{same_Some}
 use Rattle.std.specs.Prelude.{◌⊎◌}
 use Rattle.vx_trees.specs.Rose.{Roses, end, more, count}
 use Rattle.vx_types.specs.Kind.{Kind}
-use Rattle.vx_array_tree.specs.Place.{Place, exactly, behind_validity, validity_place, places_at}
+use Rattle.vx_array_tree.specs.Place.{Place, exactly, after_validity, validity_place, places_at}
 use Rattle.vx_array_tree.specs.Tree.{Trees, places, rows_below}
 use Rattle.vx_array_tree.proofs.Options.{mapped}
 use Rattle.vx_array_tree.proofs.Plans.{exactly_is}
@@ -26,11 +26,11 @@ rows_count (more t ts) = ap (λ k. suc k) (rows_count ts)
 
 -- ---- exactly so many, or one more after a validity
 
-pub behind_some : (ps : List Place) (n k : ℕ) (qs : List Place) → exactly ps k ≡ Some qs → behind_validity ps n k ≡ Some qs
-behind_some ps n k qs e = rw (e, behind_validity) refl
+pub after_some : (ps : List Place) (n k : ℕ) (qs : List Place) → exactly ps k ≡ Some qs → after_validity ps n k ≡ Some qs
+after_some ps n k qs e = rw (e, after_validity) refl
 
-pub behind_none : (ps : List Place) (n k : ℕ) → exactly ps k ≡ None → behind_validity ps n k ≡ exactly (validity_place n ∷ ps) k
-behind_none ps n k e = rw (e, behind_validity) refl
+pub after_none : (ps : List Place) (n k : ℕ) → exactly ps k ≡ None → after_validity ps n k ≡ exactly (validity_place n ∷ ps) k
+after_none ps n k e = rw (e, after_validity) refl
 
 pub exactly_count : (ps : List Place) (k : ℕ) (qs : List Place) → exactly ps k ≡ Some qs → k ≡ length ps
 exactly_count [] zero qs e = refl
@@ -56,24 +56,24 @@ exactly_none (p ∷ ps) zero h = refl
 exactly_none (p ∷ ps) (suc k) h = ap (λ (o : Option (List Place)). option_map (λ qs. p ∷ qs) o) (exactly_none ps k (λ e. h (ap (λ n. suc n) e)))
 
 -- As many as there are stand as they are, and one more after a validity; there is no other way.
-pub behind_self : (ps : List Place) (n k : ℕ) → k ≡ length ps → behind_validity ps n k ≡ Some ps
-behind_self ps n k e = ap (λ j. behind_validity ps n j) e ∙ behind_some ps n (length ps) ps (exactly_self ps)
+pub after_self : (ps : List Place) (n k : ℕ) → k ≡ length ps → after_validity ps n k ≡ Some ps
+after_self ps n k e = ap (λ j. after_validity ps n j) e ∙ after_some ps n (length ps) ps (exactly_self ps)
 
-pub behind_one : (ps : List Place) (n k : ℕ) → k ≡ suc (length ps) → behind_validity ps n k ≡ Some (validity_place n ∷ ps)
-behind_one ps n k e = ap (λ j. behind_validity ps n j) e ∙ behind_none ps n (suc (length ps)) (exactly_past ps) ∙ exactly_self (validity_place n ∷ ps)
+pub after_one : (ps : List Place) (n k : ℕ) → k ≡ suc (length ps) → after_validity ps n k ≡ Some (validity_place n ∷ ps)
+after_one ps n k e = ap (λ j. after_validity ps n j) e ∙ after_none ps n (suc (length ps)) (exactly_past ps) ∙ exactly_self (validity_place n ∷ ps)
 
-pub behind_other : (ps : List Place) (n k : ℕ) → (k ≡ length ps → ⊥) → (k ≡ suc (length ps) → ⊥) → behind_validity ps n k ≡ None
-behind_other ps n k h g = behind_none ps n k (exactly_none ps k h) ∙ exactly_none (validity_place n ∷ ps) k g
+pub after_other : (ps : List Place) (n k : ℕ) → (k ≡ length ps → ⊥) → (k ≡ suc (length ps) → ⊥) → after_validity ps n k ≡ None
+after_other ps n k h g = after_none ps n k (exactly_none ps k h) ∙ exactly_none (validity_place n ∷ ps) k g
 
 -- Places that stand so are as many as are asked for, and of these at most one more than there are.
-pub record IsBehind (ps : List Place) (n k : ℕ) (qs : List Place) : Type 0 where
+pub record IsAfter (ps : List Place) (n k : ℕ) (qs : List Place) : Type 0 where
   pub ways : ((k ≡ length ps) × (qs ≡ ps)) ⊎ ((k ≡ suc (length ps)) × (qs ≡ validity_place n ∷ ps))
 
-behind_by : (ps : List Place) (n k : ℕ) (qs : List Place) (o : Option (List Place)) → exactly ps k ≡ o → behind_validity ps n k ≡ Some qs → IsBehind ps n k qs
-behind_by ps n k qs (Some rs) e h = record { ways = inl (exactly_count ps k rs e, sym (same_Some rs qs (sym (behind_some ps n k rs e) ∙ h)) ∙ exactly_is ps k rs e) }
-behind_by ps n k qs None e h =
-    let f = sym (behind_none ps n k e) ∙ h in
+after_by : (ps : List Place) (n k : ℕ) (qs : List Place) (o : Option (List Place)) → exactly ps k ≡ o → after_validity ps n k ≡ Some qs → IsAfter ps n k qs
+after_by ps n k qs (Some rs) e h = record { ways = inl (exactly_count ps k rs e, sym (same_Some rs qs (sym (after_some ps n k rs e) ∙ h)) ∙ exactly_is ps k rs e) }
+after_by ps n k qs None e h =
+    let f = sym (after_none ps n k e) ∙ h in
     record { ways = inr (exactly_count (validity_place n ∷ ps) k qs f, exactly_is (validity_place n ∷ ps) k qs f) }
 
-pub behind_is : (ps : List Place) (n k : ℕ) (qs : List Place) → behind_validity ps n k ≡ Some qs → IsBehind ps n k qs
-behind_is ps n k qs h = behind_by ps n k qs (exactly ps k) refl h
+pub after_is : (ps : List Place) (n k : ℕ) (qs : List Place) → after_validity ps n k ≡ Some qs → IsAfter ps n k qs
+after_is ps n k qs h = after_by ps n k qs (exactly ps k) refl h

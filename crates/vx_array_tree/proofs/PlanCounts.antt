@@ -28,9 +28,9 @@ use Rattle.vx_array_tree.specs.Encodings.Variants as Variants
 use Rattle.vx_array_tree.specs.Encodings.Dicts as Dicts
 use Rattle.vx_array_tree.specs.Metadata.{Metadata}
 use Rattle.vx_array_tree.specs.Metadata as M
-use Rattle.vx_array_tree.specs.Place.{Place, place, numbers, exactly, before_validity, behind_validity, validity_place, places_at, is_len}
+use Rattle.vx_array_tree.specs.Place.{Place, place, numbers, exactly, before_validity, after_validity, validity_place, places_at, is_len}
 use Rattle.vx_array_tree.specs.Table.{plan_of}
-use Rattle.vx_array_tree.proofs.LawsOfPlaces.{exactly_count, behind_is}
+use Rattle.vx_array_tree.proofs.LawsOfPlaces.{exactly_count, after_is}
 use Rattle.vx_array_tree.proofs.Options.{mapped, let_through}
 use Rattle.vx_array_tree.proofs.Plans.{exactly_is}
 
@@ -48,8 +48,8 @@ before_as_many (p ∷ ps) n (suc k) qs e =
     let m = mapped (λ (rs : List Place). p ∷ rs) (before_validity ps n k) qs e in
     ap (λ (rs : List Place). length rs) m.1 ∙ ap (λ n. suc n) (before_as_many ps n k m.0 m.2)
 
-behind_as_many : (ps : List Place) (n k : ℕ) (qs : List Place) → behind_validity ps n k ≡ Some qs → length qs ≡ k
-behind_as_many ps n k qs e = by (behind_is ps n k qs e).ways
+after_as_many : (ps : List Place) (n k : ℕ) (qs : List Place) → after_validity ps n k ≡ Some qs → length qs ≡ k
+after_as_many ps n k qs e = by (after_is ps n k qs e).ways
   where
     by : ((k ≡ length ps) × (qs ≡ ps)) ⊎ ((k ≡ suc (length ps)) × (qs ≡ validity_place n ∷ ps)) → length qs ≡ k
     by (inl w) = ap (λ (rs : List Place). length rs) w.1 ∙ sym w.0
@@ -88,7 +88,7 @@ fixed_size_lists (node (K.fixed_size_list s m) (more x end)) n k qs e = before_a
 fixed_size_lists _ n k qs e = absurd (cc)
 
 structs : (d : Typ) (n k : ℕ) (qs : List Place) → Structs.plan d n k ≡ Some qs → length qs ≡ k
-structs (node (K.structure ns m) ts) n k qs e = behind_as_many (places_at ts n) n k qs e
+structs (node (K.structure ns m) ts) n k qs e = after_as_many (places_at ts n) n k qs e
 structs _ n k qs e = absurd (cc)
 
 exts : (d : Typ) (n k : ℕ) (qs : List Place) → Exts.plan d n k ≡ Some qs → length qs ≡ k

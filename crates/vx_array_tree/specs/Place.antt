@@ -55,8 +55,8 @@ before_validity (p ∷ ps) n zero = None
 before_validity (p ∷ ps) n (suc k) = option_map (λ qs. p ∷ qs) (before_validity ps n k)
 
 -- These places after that of a validity of n rows, which stands where there is one child more.
-abbrev pub behind_validity : List Place → ℕ → ℕ → Option (List Place)
-behind_validity ps n k = elim (exactly ps k) [ Some qs ↦ Some qs | None ↦ exactly (validity_place n ∷ ps) k ]
+abbrev pub after_validity : List Place → ℕ → ℕ → Option (List Place)
+after_validity ps n k = elim (exactly ps k) [ Some qs ↦ Some qs | None ↦ exactly (validity_place n ∷ ps) k ]
 
 -- A place for each of the types, at n rows.
 abbrev pub places_at : Roses Kind → ℕ → List Place

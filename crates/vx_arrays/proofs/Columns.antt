@@ -79,7 +79,7 @@ module _ (f : Fields) (m : Nullability) (n : ℕ) where
   none_right [] h k = (λ x. absurd (false≢true x), λ w. absurd (no_children f m n k w))
   none_right (t ∷ ts) h k = absurd (omega (arith, h))
 
-  -- Behind a validity it is the columns that decide, and without one none do.
+  -- After a validity it is the columns that decide, and without one none do.
   pub front_and_columns : (ts : Trees) (v : Tree) (us : Trees) (r : Bool) → ts ≡ more v us → (count (more v us) ≡ length f.types → ⊥) → (m ≡ Nullable) × (array_place v ≡ validity_place n)
       → (IsTrue r ↔ (places us ≡ places_at (roses_of f.types) n)) → IsTrue r ↔ IsWellShaped (struct_head f m n) ts
   front_and_columns ts v us r e k p g = (

@@ -115,11 +115,11 @@ module _ (t u : Tree) (ts us : List Tree) (p : roses_of ts ≡ below t) (q : ros
   -- Equal arrays have equal children.
   pub children_of_same : IsSame t u → map compared ts ≡ map compared us
   children_of_same e =
-      let f : roses_of (map compared ts) ≡ roses_of (map compared us) = sym (each_is ts) ∙ ap each_compared p ∙ ap below (parted t u e) ∙ ap each_compared (sym q) ∙ each_is us in
+      let f : roses_of (map compared ts) ≡ roses_of (map compared us) = sym (each_is ts) ∙ ap each_compared p ∙ ap below (split_first t u e) ∙ ap each_compared (sym q) ∙ each_is us in
       sym (roses_list-roses_of (map compared ts)) ∙ ap roses_list f ∙ roses_list-roses_of (map compared us)
     where
-      parted : (t u : Tree) → IsSame t u → node (compared_head (label t)) (each_compared (below t)) ≡ node (compared_head (label u)) (each_compared (below u))
-      parted (node h ts) (node g us) e = e
+      split_first : (t u : Tree) → IsSame t u → node (compared_head (label t)) (each_compared (below t)) ≡ node (compared_head (label u)) (each_compared (below u))
+      split_first (node h ts) (node g us) e = e
 
   -- Arrays with equal roots and children are equal.
   pub same_of_parts : compared_head (label t) ≡ compared_head (label u) → map compared ts ≡ map compared us → IsSame t u

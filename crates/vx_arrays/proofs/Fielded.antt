@@ -15,15 +15,15 @@ use Rattle.vx_types.specs.declared.nullability.Nullability.{Nullability}
 use Rattle.vx_types.specs.declared.nullability.Nullability.TheVariants.{Nullable}
 use Rattle.vx_array_tree.specs.Body as B
 use Rattle.vx_array_tree.specs.Encodings.Structs.{plan, rows, fields, width_of, has_validity, structure_valid}
-use Rattle.vx_array_tree.specs.Place.{Place, place, behind_validity, validity_place, places_at}
+use Rattle.vx_array_tree.specs.Place.{Place, place, after_validity, validity_place, places_at}
 use Rattle.vx_array_tree.specs.Refused.{IsWellShaped}
 use Rattle.vx_types.specs.Value.{flag_in}
 use Rattle.vx_array_tree.specs.Rows.{rest, where_valid, cells_where, values_at, cells_at}
 use Rattle.vx_array_tree.specs.Sound.{IsSoundNode}
 use Rattle.vx_array_tree.specs.Tree.{Tree, Trees, array_place, places, row_at, rows_below, untold}
-use Rattle.vx_array_tree.proofs.LawsOfPlaces.{IsBehind, behind_is, behind_self, behind_one, places_count, places_length, rows_count}
+use Rattle.vx_array_tree.proofs.LawsOfPlaces.{IsAfter, after_is, after_self, after_one, places_count, places_length, rows_count}
 use Rattle.vx_arrays.specs.Parts.{HaveRow}
-use Rattle.vx_arrays.specs.Structs.{IsOfFields, behind_first, field_trees, struct_head}
+use Rattle.vx_arrays.specs.Structs.{IsOfFields, after_first, field_trees, struct_head}
 
 -- ---- whether a validity stands in front
 
@@ -35,7 +35,7 @@ unequal a b f = ne_eqb a b f
 
 -- ---- sound nodes
 
-pub of_fields : (d : Typ) (n k : ℕ) (ps : List Place) → plan d n k ≡ Some ps → IsOfFields d × (behind_validity (places_at (below d) n) n k ≡ Some ps)
+pub of_fields : (d : Typ) (n k : ℕ) (ps : List Place) → plan d n k ≡ Some ps → IsOfFields d × (after_validity (places_at (below d) n) n k ≡ Some ps)
 of_fields (node (structure names m) ds) n k ps h = (tt, h)
 of_fields _ n k ps h = absurd (cc)
 
@@ -46,15 +46,15 @@ module _ (d : Typ) (n : ℕ) (ts : Trees) (s : IsSoundNode (untold d n B.struct)
   pub sound_fields : IsOfFields d
   sound_fields = (of_fields d n (count ts) (places ts) s.planned).0
 
-  sound_behind : IsBehind (places_at (below d) n) n (count ts) (places ts)
-  sound_behind = behind_is (places_at (below d) n) n (count ts) (places ts) (of_fields d n (count ts) (places ts) s.planned).1
+  sound_after : IsAfter (places_at (below d) n) n (count ts) (places ts)
+  sound_after = after_is (places_at (below d) n) n (count ts) (places ts) (of_fields d n (count ts) (places ts) s.planned).1
 
 -- Columns, by whether a validity stands in front of them.
 pub record HasColumns (d : Typ) (n : ℕ) (ts : Trees) : Type 0 where
   pub columns : places (field_trees d ts) ≡ places_at (below d) n
 
-one_behind : (t : Tree) (us : Trees) (p : Place) (ps : List Place) → places (more t us) ≡ p ∷ ps → (array_place t ≡ p) × (places us ≡ ps)
-one_behind t us p ps e = (heads _ _ _ _ e, tails _ _ _ _ e)
+one_after : (t : Tree) (us : Trees) (p : Place) (ps : List Place) → places (more t us) ≡ p ∷ ps → (array_place t ≡ p) × (places us ≡ ps)
+one_after t us p ps e = (heads _ _ _ _ e, tails _ _ _ _ e)
 
 no_places : (p : Place) (ps : List Place) → [] ≡ p ∷ ps → ⊥
 no_places p ps e = absurd (cc)
@@ -64,19 +64,19 @@ with_front : (d : Typ) (n : ℕ) (ts : Trees) → count ts ≡ suc (length (plac
 with_front d n end k e = absurd (no_places _ _ e)
 with_front d n (more t us) k e =
     let h : has_validity d (count (more t us)) ≡ true = equal (count (more t us)) (suc (width_of d)) (k ∙ ap (λ j. suc j) (places_length (below d) n ∙ sym (width_is d))) in
-    record { columns = ap (λ b. places (if b then us else more t us)) h ∙ (one_behind t us (validity_place n) (places_at (below d) n) e).1 }
+    record { columns = ap (λ b. places (if b then us else more t us)) h ∙ (one_after t us (validity_place n) (places_at (below d) n) e).1 }
 
 without_front : (d : Typ) (n : ℕ) (ts : Trees) → count ts ≡ length (places_at (below d) n) → places ts ≡ places_at (below d) n → HasColumns d n ts
 without_front d n ts k e =
     let w : count ts ≡ width_of d = k ∙ places_length (below d) n ∙ sym (width_is d) in
     let h : has_validity d (count ts) ≡ false = unequal (count ts) (suc (width_of d)) (λ q. omega (arith, q, w)) in
-    record { columns = ap (λ b. places (if b then behind_first ts else ts)) h ∙ e }
+    record { columns = ap (λ b. places (if b then after_first ts else ts)) h ∙ e }
 
-columns_by : (d : Typ) (n : ℕ) (ts : Trees) → IsBehind (places_at (below d) n) n (count ts) (places ts) → HasColumns d n ts
+columns_by : (d : Typ) (n : ℕ) (ts : Trees) → IsAfter (places_at (below d) n) n (count ts) (places ts) → HasColumns d n ts
 columns_by d n ts b = elim (b.ways) [ inl x ↦ without_front d n ts x.0 x.1 | inr x ↦ with_front d n ts x.0 x.1 ]
 
 pub sound_columns : (d : Typ) (n : ℕ) (ts : Trees) → IsSoundNode (untold d n B.struct) ts → places (field_trees d ts) ≡ places_at (below d) n
-sound_columns d n ts s = (columns_by d n ts (sound_behind d n ts s)).columns
+sound_columns d n ts s = (columns_by d n ts (sound_after d n ts s)).columns
 
 -- Each column has each row.
 pub have_row : (us : Trees) (ds : Roses Kind) (n i : ℕ) → places us ≡ places_at ds n → i < n → HaveRow i us
@@ -86,17 +86,17 @@ have_row (more t us) end n i e h = tt_of (no_places _ _ (sym e))
     tt_of : {P : Type 0} → ⊥ → P
     tt_of x = absurd x
 have_row (more t us) (more d ds) n i e h =
-    let q = one_behind t us (place d n) (places_at ds n) e in
+    let q = one_after t us (place d n) (places_at ds n) e in
     let l : (label t).len ≡ n = ap (λ (p : Place). p.len) q.0 in
     (omega (arith, l, h), have_row us ds n i q.1 h)
 
 -- The validity that stands in front of the columns has a flag for each row.
 pub front_flags : (d : Typ) (n : ℕ) (v : Tree) (us : Trees) → IsSoundNode (untold d n B.struct) (more v us) → count us ≡ width_of d → array_place v ≡ validity_place n
 front_flags d n v us s k =
-    let b = sound_behind d n (more v us) s in
+    let b = sound_after d n (more v us) s in
     elim (b.ways) [
       | inl x ↦ absurd (too_many (count us) (width_of d) (x.0 ∙ places_length (below d) n ∙ sym (width_is d)) k)
-      | inr x ↦ (one_behind v us (validity_place n) (places_at (below d) n) x.1).0
+      | inr x ↦ (one_after v us (validity_place n) (places_at (below d) n) x.1).0
     ]
   where
     too_many : (a w : ℕ) → suc a ≡ w → a ≡ w → ⊥
@@ -111,8 +111,8 @@ valid_front d v us i w k q =
     let h : has_validity d (length (rows_below (more v us))) ≡ true = equal (length (rows_below (more v us))) (suc (width_of d)) (ap (λ j. suc j) (rows_count us ∙ k)) in
     q ∙ sym (ap (λ b. structure_valid b (rows_below (more v us)) i) h)
 
-pub valid_behind : (d : Typ) (v : Tree) (us : Trees) (i : ℕ) → (count us ≡ width_of d → ⊥) → Some true ≡ structure_valid (has_validity d (length (rows_below (more v us)))) (rows_below (more v us)) i
-valid_behind d v us i k =
+pub valid_after : (d : Typ) (v : Tree) (us : Trees) (i : ℕ) → (count us ≡ width_of d → ⊥) → Some true ≡ structure_valid (has_validity d (length (rows_below (more v us)))) (rows_below (more v us)) i
+valid_after d v us i k =
     let h : has_validity d (length (rows_below (more v us))) ≡ false = unequal (length (rows_below (more v us))) (suc (width_of d)) (λ q. k (omega (arith, q, rows_count us))) in
     sym (ap (λ b. structure_valid b (rows_below (more v us)) i) h)
 
@@ -121,7 +121,7 @@ valid_none d i =
     let h : has_validity d 0 ≡ false = unequal 0 (suc (width_of d)) (λ q. omega (arith, q)) in
     sym (ap (λ b. structure_valid b [] i) h)
 
-split_rows : (b : Bool) (ts : Trees) → rows_below (if b then behind_first ts else ts) ≡ (if b then rest (rows_below ts) else rows_below ts)
+split_rows : (b : Bool) (ts : Trees) → rows_below (if b then after_first ts else ts) ≡ (if b then rest (rows_below ts) else rows_below ts)
 split_rows true end = refl
 split_rows true (more t ts) = refl
 split_rows false ts = refl
@@ -151,15 +151,15 @@ module _ (d : Typ) (n : ℕ) (ts us : Trees) (e : us ≡ field_trees d ts) where
   pub columns_smaller : (k : ℕ) → k ≤ nodes_of us → k ≤ nodes_of ts
   columns_smaller k h = omega (arith, h, ap (λ (vs : Trees). nodes_of vs) e, fewer (has_validity d (count ts)) ts)
     where
-      fewer : (b : Bool) (vs : Trees) → nodes_of (if b then behind_first vs else vs) ≤ nodes_of vs
+      fewer : (b : Bool) (vs : Trees) → nodes_of (if b then after_first vs else vs) ≤ nodes_of vs
       fewer true end = omega arith
       fewer true (more v vs) = omega arith
       fewer false vs = omega arith
 
--- Behind the first of some children stand the others.
-pub behind_length : (ts : List Tree) → 1 ≤ length ts → length (take (length ts - 1) (drop 1 ts)) ≡ length ts - 1
-behind_length [] h = absurd (omega (arith, h))
-behind_length (t ∷ ts) h = ap (λ (us : List Tree). length us) (take_all {A = Tree} (suc (length ts) - 1) ts (omega arith)) ∙ one_less (length ts)
+-- After the first of some children stand the others.
+pub after_length : (ts : List Tree) → 1 ≤ length ts → length (take (length ts - 1) (drop 1 ts)) ≡ length ts - 1
+after_length [] h = absurd (omega (arith, h))
+after_length (t ∷ ts) h = ap (λ (us : List Tree). length us) (take_all {A = Tree} (suc (length ts) - 1) ts (omega arith)) ∙ one_less (length ts)
   where
     one_less : (n : ℕ) → n ≡ suc n - 1
     one_less n = omega arith
@@ -181,14 +181,14 @@ module _ (f : Fields) (m : Nullability) (n : ℕ) (ts : Trees) where
   abbrev pub ps : List Place
   ps = places_at (roses_of f.types) n
 
-  shaped_behind : IsWellShaped (struct_head f m n) ts → IsBehind ps n (count ts) (places ts)
-  shaped_behind h = behind_is ps n (count ts) (places ts) h.planned
+  shaped_after : IsWellShaped (struct_head f m n) ts → IsAfter ps n (count ts) (places ts)
+  shaped_after h = after_is ps n (count ts) (places ts) h.planned
 
   width : length ps ≡ length f.types
   width = places_length (roses_of f.types) n ∙ count-roses_of f.types
 
-  planned_at : (k : ℕ) (qs : List Place) → count ts ≡ k → places ts ≡ qs → behind_validity ps n k ≡ Some qs → behind_validity ps n (count ts) ≡ Some (places ts)
-  planned_at k qs e q h = ap (λ j. behind_validity ps n j) e ∙ h ∙ ap (λ (rs : List Place). Some rs) (sym q)
+  planned_at : (k : ℕ) (qs : List Place) → count ts ≡ k → places ts ≡ qs → after_validity ps n k ≡ Some qs → after_validity ps n (count ts) ≡ Some (places ts)
+  planned_at k qs e q h = ap (λ j. after_validity ps n j) e ∙ h ∙ ap (λ (rs : List Place). Some rs) (sym q)
 
   -- As many children as fields are the columns.
   shaped_without : places ts ≡ ps → IsWellShaped (struct_head f m n) ts
@@ -196,7 +196,7 @@ module _ (f : Fields) (m : Nullability) (n : ℕ) (ts : Trees) where
       let k : count ts ≡ length ps = sym (places_count ts) ∙ ap (λ (rs : List Place). length rs) e in
       record {
         fair = tt;
-        planned = planned_at (length ps) ps k e (behind_self ps n (length ps) refl);
+        planned = planned_at (length ps) ps k e (after_self ps n (length ps) refl);
         allows = λ q. absurd (one_more (count ts) (count (roses_of f.types)) q (k ∙ places_length (roses_of f.types) n));
         takes = tt;
         holds = tt;
@@ -211,16 +211,16 @@ module _ (f : Fields) (m : Nullability) (n : ℕ) (ts : Trees) where
       let k : count ts ≡ suc (length ps) = sym (places_count ts) ∙ ap (λ (rs : List Place). length rs) e in
       record {
         fair = tt;
-        planned = planned_at (suc (length ps)) (validity_place n ∷ ps) k e (behind_one ps n (suc (length ps)) refl);
+        planned = planned_at (suc (length ps)) (validity_place n ∷ ps) k e (after_one ps n (suc (length ps)) refl);
         allows = λ q. nullable;
         takes = tt;
         holds = tt;
       }
 
   pub columns_decide : (r : Bool) (c : ℕ) → c ≡ length f.types → count ts ≡ c → (IsTrue r ↔ (places ts ≡ ps)) → IsTrue r ↔ IsWellShaped (struct_head f m n) ts
-  columns_decide r c q k g = (λ x. shaped_without (g.0 x), λ h. g.1 (only (shaped_behind h)))
+  columns_decide r c q k g = (λ x. shaped_without (g.0 x), λ h. g.1 (only (shaped_after h)))
     where
-      only : IsBehind ps n (count ts) (places ts) → places ts ≡ ps
+      only : IsAfter ps n (count ts) (places ts) → places ts ≡ ps
       only b = elim (b.ways) [ inl x ↦ x.1 | inr x ↦ absurd (one_more (count ts) (length ps) x.0 (k ∙ q ∙ sym width)) ]
         where
           one_more : (a w : ℕ) → a ≡ suc w → a ≡ w → ⊥
@@ -229,13 +229,13 @@ module _ (f : Fields) (m : Nullability) (n : ℕ) (ts : Trees) where
 module _ (f : Fields) (m : Nullability) (n : ℕ) (v : Tree) (us : Trees) where
   pub front_decides : (count (more v us) ≡ length f.types → ⊥) → IsWellShaped (struct_head f m n) (more v us) → (m ≡ Nullable) × (array_place v ≡ validity_place n) × (places us ≡ places_at (roses_of f.types) n)
   front_decides other h =
-      let b = shaped_behind f m n (more v us) h in
+      let b = shaped_after f m n (more v us) h in
       elim (b.ways) [
         | inl x ↦ absurd (other (x.0 ∙ width f m n (more v us)))
         | inr x ↦ (
           h.allows (x.0 ∙ ap (λ j. suc j) (places_length (roses_of f.types) n)),
-          (one_behind v us (validity_place n) (places_at (roses_of f.types) n) x.1).0,
-          (one_behind v us (validity_place n) (places_at (roses_of f.types) n) x.1).1,
+          (one_after v us (validity_place n) (places_at (roses_of f.types) n) x.1).0,
+          (one_after v us (validity_place n) (places_at (roses_of f.types) n) x.1).1,
         )
       ]
 
@@ -251,7 +251,7 @@ module _ (f : Fields) (m : Nullability) (n : ℕ) (v : Tree) (us : Trees) where
 
 pub no_children : (f : Fields) (m : Nullability) (n : ℕ) → (0 ≡ length f.types → ⊥) → IsWellShaped (struct_head f m n) end → ⊥
 no_children f m n other h =
-    let b = shaped_behind f m n end h in
+    let b = shaped_after f m n end h in
     elim (b.ways) [ inl x ↦ absurd (other (x.0 ∙ width f m n end)) | inr x ↦ absurd (no_places _ _ x.1) ]
 
 -- What rows of structs rest on.

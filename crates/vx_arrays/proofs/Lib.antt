@@ -2,7 +2,7 @@ mod Naturals
 mod Cloned
 mod Rising
 mod PlainOffsets
-mod Parted
+mod Split
 mod Viewed
 mod Flags
 mod AllInvalid
@@ -23,7 +23,7 @@ mod Stored
 mod Listed
 mod Tagged
 mod Dictionaries
-mod Behind
+mod After
 mod ListViewed
 mod Entries
 mod Mapped

@@ -25,7 +25,7 @@ use Rattle.vx_arrays.specs.Lists.{element_of}
 use Rattle.vx_arrays.specs.ListViews.{AreCounts, AreViewParts, views_of}
 use Rattle.vx_arrays.specs.VarBins.{IsOfOffsets}
 use Rattle.vx_arrays.proofs.Listed.{first_stands}
-use Rattle.vx_arrays.proofs.Parted.{offsets_type, same_suc}
+use Rattle.vx_arrays.proofs.Split.{offsets_type, same_suc}
 
 -- ---- what a plan says
 
@@ -56,7 +56,7 @@ shaped_parts d n x a o z vs s =
       element = p.1 ∙ ap (λ (y : Typ). Some y) (sym (ap (λ (y : Place). y.dtype) f.0));
       offsets = counts_at n o s.fair.offsets g.0;
       sizes = counts_at n z s.fair.sizes h.0;
-      behind = record { planned = h.1; allowed = λ e. s.allows (ap (λ k. suc (suc (suc k))) e) };
+      after = record { planned = h.1; allowed = λ e. s.allows (ap (λ k. suc (suc (suc k))) e) };
     }
 
 planned_of : (d : Typ) (n : ℕ) (a o z : Tree) (vs : Trees) (p q : PType) → element_of d ≡ Some (label a).dtype → (label o).dtype ≡ numbers p → (label o).len ≡ n → (label z).dtype ≡ numbers q → (label z).len ≡ n
@@ -73,8 +73,8 @@ parts_shaped d n x a o z vs l =
     let q = offsets_type (label z).dtype l.sizes.integers in
     record {
       fair = record { offsets = p.1; sizes = q.1 };
-      planned = planned_of d n a o z vs (ptype_of (label o).dtype) (ptype_of (label z).dtype) l.element p.0 l.offsets.counted q.0 l.sizes.counted l.behind.planned;
-      allows = λ e. l.behind.allowed (same_suc (count vs) 1 (same_suc (suc (count vs)) 2 (same_suc (suc (suc (count vs))) 3 e)));
+      planned = planned_of d n a o z vs (ptype_of (label o).dtype) (ptype_of (label z).dtype) l.element p.0 l.offsets.counted q.0 l.sizes.counted l.after.planned;
+      allows = λ e. l.after.allowed (same_suc (count vs) 1 (same_suc (suc (count vs)) 2 (same_suc (suc (suc (count vs))) 3 e)));
       takes = tt;
       holds = tt;
     }
@@ -97,7 +97,7 @@ three_children d n x (more a (more o (more z vs))) s = omega arith
 pub never_few : (d : Typ) (n : ℕ) (flag : Bool) (us : List Tree) → length us < 3 → IsWellShaped (untold d n (views_of flag)) (roses_of us) → ⊥
 never_few d n flag us l s = omega (arith, l, three_children d n (record { zero_copy = flag }) (roses_of us) s, count-roses_of us)
 
--- Behind the first of some arrays stands one less.
+-- After the first of some arrays stands one less.
 pub one_less : (us ws : List Tree) (a : Tree) → more a (roses_of ws) ≡ roses_of us → suc (length ws) ≡ length us
 one_less us ws a e = ap (λ k. suc k) (sym (count-roses_of ws)) ∙ ap (λ (ts : Trees). count ts) e ∙ count-roses_of us
 
@@ -138,7 +138,7 @@ module _ (d : Typ) (n : ℕ) (x : Data) (ts us ws : Trees) (a o z : Tree) (vs : 
     shaped_sizes = parts_of.sizes.counted
 
     pub shaped_planned : before_validity [] n (count vs) ≡ Some (places vs)
-    shaped_planned = parts_of.behind.planned
+    shaped_planned = parts_of.after.planned
 
   -- The content is that the valid rows are right.
   pub content_is : (b : Bool) → (IsTrue b ↔ ((i : ℕ) → i < n → IsThere (validity (rows_below vs)) i → IsView (rows_of a) (rows_of o) (rows_of z) i)) → IsTrue b ↔ Content n (rows_below ts)

@@ -27,7 +27,7 @@ use Rattle.vx_array_tree.proofs.RowsOfSound.{rows_len}
 use Rattle.vx_arrays.specs.Lists.{element_of}
 use Rattle.vx_arrays.specs.Validity.{IsValidity}
 use Rattle.vx_arrays.specs.VarBins.{IsOfOffsets}
-use Rattle.vx_arrays.proofs.Parted.{below_limit, offsets_type, same_suc}
+use Rattle.vx_arrays.proofs.Split.{below_limit, offsets_type, same_suc}
 
 -- ---- what a plan says
 
@@ -61,7 +61,7 @@ pub record IsListed (d : Typ) (n : ℕ) (a o : Tree) (vs : Trees) : Type 0 where
   pub offsets : IsOfOffsets (label o).dtype
   pub counted : (label o).len ≡ suc n
   pub few : suc n < 2 ^ 64
-  pub behind : IsValidity (nullability d) n vs
+  pub after : IsValidity (nullability d) n vs
 
 pub shaped_listed : (d : Typ) (n : ℕ) (a o : Tree) (vs : Trees) → IsWellShaped (untold d n B.list) (more a (more o vs)) → IsListed d n a o vs
 shaped_listed d n a o vs s =
@@ -76,7 +76,7 @@ shaped_listed d n a o vs s =
       offsets = subst (λ (z : Typ). IsOfOffsets z) (sym (ap (λ (x : Place). x.dtype) g.0)) s.fair;
       counted = ap (λ (x : Place). x.len) g.0;
       few = ltb-true (suc n) (2 ^ 64) (passed (is_len (suc n)) _ (places ts) p.2);
-      behind = record { planned = g.1; allowed = λ e. s.allows (ap (λ k. suc (suc k)) e) };
+      after = record { planned = g.1; allowed = λ e. s.allows (ap (λ k. suc (suc k)) e) };
     }
 
 planned_of : (d : Typ) (n : ℕ) (a o : Tree) (vs : Trees) (q : PType) → element_of d ≡ Some (label a).dtype → (label o).dtype ≡ numbers q → (label o).len ≡ suc n → suc n < 2 ^ 64 → before_validity [] n (count vs) ≡ Some (places vs)
@@ -91,22 +91,22 @@ listed_shaped d n a o vs l =
     let k = offsets_type (label o).dtype l.offsets in
     record {
       fair = k.1;
-      planned = planned_of d n a o vs (ptype_of (label o).dtype) l.element k.0 l.counted l.few l.behind.planned;
-      allows = λ e. l.behind.allowed (same_suc (count vs) 1 (same_suc (suc (count vs)) 2 e));
+      planned = planned_of d n a o vs (ptype_of (label o).dtype) l.element k.0 l.counted l.few l.after.planned;
+      allows = λ e. l.after.allowed (same_suc (count vs) 1 (same_suc (suc (count vs)) 2 e));
       takes = tt;
       holds = tt;
     }
 
 -- What is told of the type's nullability is told of the type.
-pub behind_type : (m : Nullability) (n : ℕ) (b : Bool) (d : Typ) (vs : Trees) → m ≡ nullability d → (IsTrue b ↔ IsValidity m n vs) → IsTrue b ↔ IsValidity (nullability d) n vs
-behind_type m n b d vs e h = subst (λ (z : Nullability). IsTrue b ↔ IsValidity z n vs) e h
+pub after_type : (m : Nullability) (n : ℕ) (b : Bool) (d : Typ) (vs : Trees) → m ≡ nullability d → (IsTrue b ↔ IsValidity m n vs) → IsTrue b ↔ IsValidity (nullability d) n vs
+after_type m n b d vs e h = subst (λ (z : Nullability). IsTrue b ↔ IsValidity z n vs) e h
 
 -- So parts are of it where each is, and of no other.
 pub listed_decide : (d : Typ) (n : ℕ) (b : Bool) (a o : Tree) (vs : Trees) → element_of d ≡ Some (label a).dtype → IsOfOffsets (label o).dtype → (label o).len ≡ suc n → suc n < 2 ^ 64 → (IsTrue b ↔ IsValidity (nullability d) n vs)
     → IsTrue b ↔ IsWellShaped (untold d n B.list) (more a (more o vs))
 listed_decide d n b a o vs e k l lt h = (
-  λ t. listed_shaped d n a o vs (record { element = e; offsets = k; counted = l; few = lt; behind = h.0 t }),
-  λ s. h.1 (shaped_listed d n a o vs s).behind,
+  λ t. listed_shaped d n a o vs (record { element = e; offsets = k; counted = l; few = lt; after = h.0 t }),
+  λ s. h.1 (shaped_listed d n a o vs s).after,
 )
 
 -- There are two children or more.
@@ -165,7 +165,7 @@ module _ (d : Typ) (n : ℕ) (ts us : Trees) (a o : Tree) (vs : Trees) (e : more
     sound_counted = shaped_counted (shape d n ts s)
 
     pub sound_planned : before_validity [] n (count vs) ≡ Some (places vs)
-    sound_planned = (listed (shape d n ts s)).behind.planned
+    sound_planned = (listed (shape d n ts s)).after.planned
 
     pub sound_offsets : (total : ℕ) → total ≡ (label a).len → AreOffsets (rows_of o) n total
     sound_offsets total q =

@@ -24,16 +24,16 @@ use Rattle.vx_arrays.specs.Variants.{AreRows, IsOfVariants, merged_cells, merged
 pub record IsOverCore (d : Typ) (n : ℕ) (c : Tree) (us : Trees) : Type 0 where
   pub variants : IsOfVariants d
   pub core : array_place c ≡ place d n
-  pub behind : AreRows n us
+  pub after : AreRows n us
 
 planned : (d : Typ) (n : ℕ) (c : Tree) (us : Trees) → plan d n (metadata_of (places (more c us))) (suc (count us)) ≡ Some (places (more c us)) → IsOverCore d n c us
 planned (node (K.variant m) end) n c end p =
     let e = exactly_is (place (node (K.variant m) end) n ∷ []) 1 (places (more c end)) p in
-    record { variants = tt; core = heads _ _ _ _ e; behind = tt }
+    record { variants = tt; core = heads _ _ _ _ e; after = tt }
 planned (node (K.variant m) end) n c (more s end) p =
     let e = exactly_is (place (node (K.variant m) end) n ∷ place (label s).dtype n ∷ []) 2 (places (more c (more s end))) p in
     let f = heads _ _ _ _ (tails _ _ _ _ e) in
-    record { variants = tt; core = heads _ _ _ _ e; behind = (ap (λ (q : Place). q.len) f, tt) }
+    record { variants = tt; core = heads _ _ _ _ e; after = (ap (λ (q : Place). q.len) f, tt) }
 planned (node (K.variant m) end) n c (more s (more t us)) p = absurd (none-some _ p)
 planned _ n c us p = absurd (cc)
 
@@ -69,16 +69,16 @@ module _ (d : Typ) (n : ℕ) (c : Tree) (us ts : Trees) (e : more c us ≡ ts) (
   pub core_counted : (label c).len ≡ n
   core_counted = ap (λ (q : Place). q.len) over.core
 
-  pub behind_counted : AreRows n us
-  behind_counted = over.behind
+  pub after_counted : AreRows n us
+  after_counted = over.after
 
-pub ruleset parts = (sound_some, core_variants, core_counted, behind_counted)
+pub ruleset parts = (sound_some, core_variants, core_counted, after_counted)
 
 -- ---- rows
 
 module _ (n : ℕ) (c : Tree) (us : List Tree) (ts : Trees) (i : ℕ) (e : more c (roses_of us) ≡ ts) where
-  none_behind : length us ≡ 0 → more c end ≡ ts
-  none_behind l = ap (λ (ws : Trees). more c ws) (sym (empty us l)) ∙ e
+  none_after : length us ≡ 0 → more c end ≡ ts
+  none_after l = ap (λ (ws : Trees). more c ws) (sym (empty us l)) ∙ e
     where
       empty : (us : List Tree) → length us ≡ 0 → roses_of us ≡ end
       empty [] l = refl
@@ -86,21 +86,21 @@ module _ (n : ℕ) (c : Tree) (us : List Tree) (ts : Trees) (i : ℕ) (e : more 
 
   module _ (l : length us ≡ 0) where
     pub lone_value : row_at c i ≡ (rows n (metadata_of (places ts)) (rows_below ts)).row i
-    lone_value = ap (λ (ws : Trees). (rows n (metadata_of (places ws)) (rows_below ws)).row i) (none_behind l)
+    lone_value = ap (λ (ws : Trees). (rows n (metadata_of (places ws)) (rows_below ws)).row i) (none_after l)
 
     pub lone_cells : cells c i ≡ (rows n (metadata_of (places ts)) (rows_below ts)).cells i
-    lone_cells = ap (λ (ws : Trees). (rows n (metadata_of (places ws)) (rows_below ws)).cells i) (none_behind l)
+    lone_cells = ap (λ (ws : Trees). (rows n (metadata_of (places ws)) (rows_below ws)).cells i) (none_after l)
 
   pub core_smaller : nodes c ≤ nodes_of ts
   core_smaller = omega (arith, ap (λ (ws : Trees). nodes_of ws) e)
 
   module _ (s : Tree) (l : 1 ≤ length us) (q : s ≡ get_or us 0 s) where
-    some_behind : (us : List Tree) → 1 ≤ length us → s ≡ get_or us 0 s → (ws : Trees) × (roses_of us ≡ more s ws)
-    some_behind [] l q = absurd (omega (arith, l))
-    some_behind (u ∷ us) l q = (roses_of us, ap (λ (t : Tree). more t (roses_of us)) (sym q))
+    some_after : (us : List Tree) → 1 ≤ length us → s ≡ get_or us 0 s → (ws : Trees) × (roses_of us ≡ more s ws)
+    some_after [] l q = absurd (omega (arith, l))
+    some_after (u ∷ us) l q = (roses_of us, ap (λ (t : Tree). more t (roses_of us)) (sym q))
 
     front : (ws : Trees) × (more c (more s ws) ≡ ts)
-    front = let b = some_behind us l q in (b.0, ap (λ (ws : Trees). more c ws) (sym b.1) ∙ e)
+    front = let b = some_after us l q in (b.0, ap (λ (ws : Trees). more c ws) (sym b.1) ∙ e)
 
     pub merged_value : merged_row c s i ≡ (rows n (metadata_of (places ts)) (rows_below ts)).row i
     merged_value = ap (λ (ws : Trees). (rows n (metadata_of (places ws)) (rows_below ws)).row i) front.1
@@ -112,7 +112,7 @@ module _ (n : ℕ) (c : Tree) (us : List Tree) (ts : Trees) (i : ℕ) (e : more 
     both_smaller = omega (arith, ap (λ (ws : Trees). nodes_of ws) front.1)
 
     pub shredded_counted : AreRows n (roses_of us) → (label s).len ≡ n
-    shredded_counted a = (subst (λ (ws : Trees). AreRows n ws) (some_behind us l q).1 a).0
+    shredded_counted a = (subst (λ (ws : Trees). AreRows n ws) (some_after us l q).1 a).0
 
 pub ruleset shredded = (lone_value, lone_cells, core_smaller, merged_value, merged_count, both_smaller, shredded_counted)
 
@@ -151,7 +151,7 @@ pub both_decide : (d : Typ) (n : ℕ) (c s : Tree) → IsType (label s).dtype �
 both_decide d n c s t k = both_shaped d n c s k.0.0 k.0.1 k.1 t
 
 pub both_were : (d : Typ) (n : ℕ) (c s : Tree) → IsWellShaped (untold d n B.variant) (more c (more s end)) → (IsOfVariants d × (array_place c ≡ place d n)) × ((label s).len ≡ n)
-both_were d n c s w = let k = shaped_planned d n c (more s end) w in ((k.variants, k.core), k.behind.0)
+both_were d n c s w = let k = shaped_planned d n c (more s end) w in ((k.variants, k.core), k.after.0)
 
 -- ---- the shape in the words of a slice
 

@@ -20,7 +20,7 @@ use Rattle.vx_array_tree.specs.Tree.{Tree, Trees, places, rows_below, rows_of, u
 use Rattle.vx_array_tree.proofs.Options.{let_through}
 use Rattle.vx_arrays.specs.FixedSizeLists.{IsOfSize, fixed_size_list_head}
 use Rattle.vx_arrays.specs.Validity.{IsValidity}
-use Rattle.vx_arrays.proofs.Parted.{front_is, below_limit, same_suc}
+use Rattle.vx_arrays.proofs.Split.{front_is, below_limit, same_suc}
 
 -- ---- what a plan says
 

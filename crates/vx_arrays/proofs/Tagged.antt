@@ -187,17 +187,17 @@ pub sound_some : (d : Typ) (n : ℕ) (us : List Tree) → IsSoundNode (untold d 
 sound_some d n us s = has_first d n us (of_members d n (roses_of us) s.planned)
 
 module _ (d : Typ) (n : ℕ) (ts us : Trees) (t : Tree) (e : more t us ≡ ts) where
-  parted_places : IsOfMembers d n ts → IsOfMembers d n (more t us)
-  parted_places o = subst (λ (zs : Trees). IsOfMembers d n zs) (sym e) o
+  split_places : IsOfMembers d n ts → IsOfMembers d n (more t us)
+  split_places o = subst (λ (zs : Trees). IsOfMembers d n zs) (sym e) o
 
   tags_len : IsOfMembers d n (more t us) → (label t).len ≡ n
   tags_len o = ap (λ (p : Place). p.len) (heads _ _ _ _ o.stand)
 
   pub shaped_tags : IsWellShaped (untold d n B.union) ts → (label t).len ≡ n
-  shaped_tags s = tags_len (parted_places (of_members d n ts s.planned))
+  shaped_tags s = tags_len (split_places (of_members d n ts s.planned))
 
   pub sound_tags : IsSoundNode (untold d n B.union) ts → (label t).len ≡ n
-  sound_tags s = tags_len (parted_places (of_members d n ts s.planned))
+  sound_tags s = tags_len (split_places (of_members d n ts s.planned))
 
   pub tags_rows : rows_of t ≡ first (rows_below ts)
   tags_rows = ap (λ (zs : Trees). first (rows_below zs)) e
@@ -265,7 +265,7 @@ module _ (d : Typ) (n : ℕ) (ts us : Trees) (t : Tree) (e : more t us ≡ ts) w
 
         pub tagged_there : i < (label a).len
         tagged_there =
-            let o = parted_places (of_members d n ts s.planned) in
+            let o = split_places (of_members d n ts s.planned) in
             omega (arith, l, named_len number (tags_of d) us o.types n a (tails _ _ _ _ o.stand) f)
 
         pub tagged_smaller : nodes a ≤ nodes_of ts

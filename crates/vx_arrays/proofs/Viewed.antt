@@ -16,7 +16,7 @@ numbered_name k (suc i) (b ∷ bs) rest h = numbered_name (suc k) i bs rest (ome
     moved : (j n : ℕ) → suc j + n ≡ j + suc n
     moved j n = omega arith
 
--- Behind them stands one name more.
+-- After them stands one name more.
 last_name : (k : ℕ) (bs : List Buffer) (name : List ℕ) → slice_get (numbered k bs ++ name ∷ []) (length bs) ≡ Some name
 last_name k [] name = refl
 last_name k (b ∷ bs) name = last_name (suc k) bs name

@@ -32,4 +32,4 @@ pub record AreViewParts (d : Typ) (n : ℕ) (a o z : Tree) (vs : Trees) : Type 0
   pub element : element_of d ≡ Some (label a).dtype
   pub offsets : AreCounts n o
   pub sizes : AreCounts n z
-  pub behind : IsValidity (nullability d) n vs
+  pub after : IsValidity (nullability d) n vs

@@ -20,13 +20,13 @@ abbrev pub AreStructParts : Fields → Nullability → Trees → Option Tree →
 AreStructParts fields m columns validity = (count columns ≡ length fields.types) × (IfSome validity (λ _. m ≡ Nullable))
 
 -- Children after a validity, if any.
-abbrev pub behind_validity : Option Tree → Trees → Trees
-behind_validity None ts = ts
-behind_validity (Some t) ts = more t ts
+abbrev pub after_validity : Option Tree → Trees → Trees
+after_validity None ts = ts
+after_validity (Some t) ts = more t ts
 
 -- n structs of the columns: a node over the validity, if any, and then the columns.
 abbrev pub struct_tree : Fields → Nullability → Trees → ℕ → Option Tree → Tree
-struct_tree fields m columns n validity = node (struct_head fields m n) (behind_validity validity columns)
+struct_tree fields m columns n validity = node (struct_head fields m n) (after_validity validity columns)
 
 -- The types of structs.
 abbrev pub IsOfFields : Typ → Type 0
@@ -34,10 +34,10 @@ IsOfFields (node (structure names m) ts) = Unit {0}
 IsOfFields _ = ⊥
 
 -- The children after the first.
-abbrev pub behind_first : Trees → Trees
-behind_first end = end
-behind_first (more t ts) = ts
+abbrev pub after_first : Trees → Trees
+after_first end = end
+after_first (more t ts) = ts
 
 -- The children of a struct node that are its columns: all, but for a validity in front.
 abbrev pub field_trees : Typ → Trees → Trees
-field_trees d ts = if has_validity d (count ts) then behind_first ts else ts
+field_trees d ts = if has_validity d (count ts) then after_first ts else ts

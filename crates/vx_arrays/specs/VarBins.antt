@@ -35,6 +35,6 @@ IsOfOffsets _ = ⊥
 
 -- The children of a node of n rows are offsets, one more than there are rows, and what stands after them as its
 -- validity.
-pub record IsParted (n : ℕ) (offsets : Tree) (behind : Trees) : Type 0 where
+pub record IsSplit (n : ℕ) (offsets : Tree) (after : Trees) : Type 0 where
   pub counted : (label offsets).len ≡ suc n
-  pub planned : before_validity [] n (count behind) ≡ Some (places behind)
+  pub planned : before_validity [] n (count after) ≡ Some (places after)

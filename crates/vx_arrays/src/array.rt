@@ -152,6 +152,7 @@ impl Array {
         ensures unchanged { OnErr result (self.new ≡ self.old) }
         ensures err { IfErr result (λ e. (e ≡ TypeError.BadScalar) × (FitStats (label self.old).dtype stats → ⊥)) }
     {
+        // Judged before they are stored, so that a refusal leaves the array as it was.
         stats.validate(&self.dtype)?;
         self.stats = stats;
         Ok(())
@@ -213,7 +214,8 @@ impl Array {
         self.body.buffer(index)
     }
 
-    /// Checks the whole tree. Constructors make no unsound array, so the answer is always Ok.
+    /// Checks the whole tree. Constructors make no unsound array, so the answer is always Ok: the body is read for the
+    /// invariant alone.
     pub fn validate(&self) -> Result<(), ArrayError>
         ensures ok { IsOk result }
         ensures sound { IsSound self.now }
@@ -240,7 +242,8 @@ impl Array {
         built(alloc, parts, budget)
     }
 
-    /// The row's value, if it takes at most `budget` cells.
+    /// The row's value, if it takes at most `budget` cells. Without a budget a few bytes could ask for a row of any size,
+    /// as dictionaries and lists repeat what they refer to.
     #[tactic(auto, using(crate::proofs::Counted::counted))]
     pub fn value_at(&self, alloc: Global, index: usize, budget: u64) -> Result<RowValue, ArrayError>
         requires { index < (label self.now).len }

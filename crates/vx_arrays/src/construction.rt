@@ -19,7 +19,8 @@ use vx_rows::ArrayError;
 use vx_types::DType;
 
 // Judges parts: `shaped` says whether they have their encoding's shape, and `right` whether their content is right
-// where the control children are known.
+// where the control children are known. Control comes before content: the rows of a foreign node are unknown, so content
+// that depends on them is neither right nor wrong.
 fn judge(
     dtype: &DType,
     len: usize,

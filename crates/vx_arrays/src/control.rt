@@ -41,6 +41,7 @@ pub(crate) fn is_controlled(dtype: &DType, len: usize, body: &Body, children: &[
     requires { IsWellShaped (untold (typ dtype.now) len (plain_body body.now)) (roses_of children.now) }
     ensures { IsTrue result ↔ IsControlled (untold (typ dtype.now) len (plain_body body.now)) (roses_of children.now) }
 {
+    // Reads the length, so that the proof has its range.
     let _len = len;
     if !has_native_entries(body, children) {
         return false;
@@ -53,7 +54,8 @@ pub(crate) fn is_controlled(dtype: &DType, len: usize, body: &Body, children: &[
     true
 }
 
-// Whether the entries of a map node are not foreign.
+// Whether the entries of a map node are not foreign. The node alone is asked: what stands below it is no control
+// child of the map.
 fn has_native_entries(body: &Body, children: &[Array]) -> bool
     ensures { IsTrue result ↔ HasNativeEntries (encoding_of (plain_body body.now)) (roses_of children.now) }
 {

@@ -50,6 +50,7 @@ impl Arrays {
         ensures unchanged { OnErr result (self.new ≡ self.old) }
         ensures err { IsOkUnless result ArrayError.OutOfMemory }
     {
+        // Asked for its clause, that the array is sound.
         let _rows = array.len();
         self.items.push(array)?;
         Ok(())
@@ -66,11 +67,13 @@ impl Arrays {
         }
     }
 
-    // Puts an array in front.
+    // Puts an array in front, as the validity of a struct comes before its columns and the tags of a union before its
+    // members.
     pub(crate) fn put_first(&mut self, array: Array) -> Result<(), ArrayError>
         ensures ok { OnOk result (self.new ≡ more array self.old) }
         ensures err { IsOkUnless result ArrayError.OutOfMemory }
     {
+        // Asked for its clause, that the array is sound.
         let _rows = array.len();
         self.items.insert(0, array)?;
         Ok(())

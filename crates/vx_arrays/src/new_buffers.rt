@@ -1,6 +1,6 @@
 //! Arrays with other buffers.
 
-ghost use Rattle.std.specs.Prelude.{◌≡◌, ◌∷◌, [], Some, IfOk, IfErr, IfSome, IfNone, IsOkUnless, List, length};
+ghost use Rattle.std.specs.Prelude.{◌≡◌, [], Some, IfOk, IfErr, IsOkUnless, List, length};
 ghost use Rattle.vx_buffer.specs.Buffer.{Buffer};
 ghost use Rattle.vx_trees.specs.Everywhere.{EverywhereBelow};
 ghost use Rattle.vx_trees.specs.Rose.{count, node, roses_of};
@@ -16,7 +16,7 @@ ghost use Rattle.vx_arrays.specs.Refused.{IsOkOrMemory};
 use crate::array::Array;
 use crate::body::Body;
 use std::alloc::Global;
-use vx_buffer::{BufferHandle, BufferHandles};
+use vx_buffer::BufferHandles;
 use vx_rows::{ArrayError, copied_type};
 use vx_scalars::StatsSet;
 use vx_types::DType;
@@ -40,18 +40,6 @@ impl Array {
         let array = self.untold_with(alloc, buffers)?;
         Ok(array.told(stats))
     }
-}
-
-// The only buffer, if there is exactly one.
-pub(crate) fn only_buffer(buffers: BufferHandles) -> Option<BufferHandle>
-    ensures one { IfSome result (λ b. buffers ≡ b ∷ []) }
-    ensures none { IfNone result (length buffers ≡ 1 → ⊥) }
-{
-    let mut items = buffers.into_vec();
-    if items.len() != 1 {
-        return None;
-    }
-    items.pop()
 }
 
 // A copy of the validity that a node of `len` rows has as its only child, if any.
@@ -97,7 +85,7 @@ pub(crate) fn without_buffers(
     once_more(alloc, dtype, len, body, children)
 }
 
-// A copy of a node's array, without statistics.
+// A copy of a node's array, without statistics, which the caller puts back.
 pub(crate) fn once_more(
     alloc: Global,
     dtype: &DType,

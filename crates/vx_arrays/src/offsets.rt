@@ -31,7 +31,8 @@ pub(crate) fn index_at(array: &Array, index: usize) -> Option<u64>
     }
 }
 
-// Whether rows are offsets: natural numbers that never decrease, of which the last is at most a total.
+// Whether rows are offsets: natural numbers that never decrease, of which the last is at most a total. Plain numbers are
+// read from their bytes in one pass, which costs less than asking an array row by row.
 pub(crate) fn are_offsets(offsets: &Array, parts: usize, total: usize) -> bool
     requires counted { (label offsets.now).len ≡ suc parts }
     ensures { IsTrue result ↔ AreOffsets (rows_of offsets.now) parts total }

@@ -60,7 +60,8 @@ pub(crate) enum RowParts<'a> {
     },
 }
 
-// The parts of a row by its validity: a row that is not valid is null, and one of unknown validity is opaque.
+// The parts of a row by its validity: a row that is not valid is null, and one of unknown validity is opaque. Validity is
+// judged first, because what a row that is not valid refers to is never looked at.
 pub(crate) fn where_there<'a>(valid: Option<bool>, parts: RowParts<'a>) -> RowParts<'a>
     requires { AreThere parts }
     ensures value { (f : ℕ → Value) (i : ℕ) → parts_value parts.entry ≡ f i → parts_value result ≡ where_valid valid f i }

@@ -127,10 +127,10 @@ pub(crate) fn over_validity(
 }
 
 // Whether the arrays after a node's other children are the validity of `len` rows, or none.
-pub(crate) fn stands_behind(nullability: Nullability, behind: &[Array], len: usize) -> bool
-    ensures { IsTrue result ↔ IsValidity nullability len (roses_of behind.now) }
+pub(crate) fn is_validity_after(nullability: Nullability, after: &[Array], len: usize) -> bool
+    ensures { IsTrue result ↔ IsValidity nullability len (roses_of after.now) }
 {
-    match behind {
+    match after {
         [] => true,
         [validity] => match nullability {
             Nullability::Nullable => {
@@ -142,7 +142,8 @@ pub(crate) fn stands_behind(nullability: Nullability, behind: &[Array], len: usi
     }
 }
 
-// The children of a node that has two, and after them at most a validity.
+// The children of a node that has two, and after them at most a validity. All are pushed before one failure is told:
+// a `?` between them would add a case to the proof for each list that it drops.
 pub(crate) fn listed(
     alloc: Global,
     first: Array,
@@ -185,12 +186,12 @@ pub(crate) fn listed_by_three(
 }
 
 // The first of a node's children, and those after it.
-pub(crate) fn parted(children: &[Array]) -> (&Array, &[Array])
+pub(crate) fn split_first(children: &[Array]) -> (&Array, &[Array])
     requires { 1 ≤ length children.now }
     ensures { more result.0.now (roses_of result.1.now) ≡ roses_of children.now }
 {
     match children {
-        [first, behind @ ..] => (first, behind),
+        [first, after @ ..] => (first, after),
         [] => unreachable!(),
     }
 }

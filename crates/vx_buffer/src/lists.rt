@@ -1,6 +1,6 @@
 //! Lists of buffers.
 
-ghost use Rattle.std.specs.Prelude.{◌≡◌, ◌↔◌, [], ◌∷◌, ◌++◌, length, slice_get, IfOk, IsTrue, OnOk, OnErr};
+ghost use Rattle.std.specs.Prelude.{◌≡◌, ◌↔◌, [], ◌∷◌, ◌++◌, length, slice_get, IfNone, IfOk, IfSome, IsTrue, OnOk, OnErr};
 ghost use Rattle.std.specs.Option.{option_copied};
 ghost use Rattle.vx_buffer.specs.Joined.{joined};
 
@@ -35,12 +35,12 @@ impl ByteBuffers {
         }
     }
 
-    /// The empty list, with room for this many buffers where that memory can be allocated. A failure here
+    /// The empty list, with memory for this many buffers where that can be allocated. A failure here
     /// is no refusal: `push` allocates what is missing.
-    pub fn with_room(alloc: Global, room: usize) -> ByteBuffers
+    pub fn with_capacity(alloc: Global, capacity: usize) -> ByteBuffers
         ensures { result ≡ [] }
     {
-        match Vec::with_capacity(alloc, room) {
+        match Vec::with_capacity(alloc, capacity) {
             Ok(items) => ByteBuffers { items },
             Err(_) => ByteBuffers::new(alloc),
         }
@@ -184,6 +184,18 @@ impl BufferHandles {
         ensures { result.now ≡ self.now }
     {
         self.items.as_slice()
+    }
+
+    /// The only handle, moved out: `None` exactly where there is none or more than one.
+    pub fn only_buffer(self) -> Option<BufferHandle>
+        ensures one { IfSome result (λ b. self ≡ b ∷ []) }
+        ensures none { IfNone result (length self ≡ 1 → ⊥) }
+    {
+        let mut items = self.items;
+        if items.len() != 1 {
+            return None;
+        }
+        items.pop()
     }
 
     /// The handles in their order, moved out.

@@ -25,7 +25,7 @@ use Rattle.vx_rows.specs.declared.error.ArrayError.{ArrayError}
 use Rattle.vx_encodings.proofs.Bare.{fixed_size_list_metadata, fixed_size_list_nothing}
 use Rattle.vx_encodings.proofs.Fitting.{constructor_refused}
 use Rattle.vx_encodings.proofs.Singles.{single_unplanned, single_built}
-use Rattle.vx_encodings.proofs.Validities.{behind_few, behind_place}
+use Rattle.vx_encodings.proofs.Validities.{after_few, after_place}
 use Rattle.vx_encodings.specs.Steps.{IsPlanned, RefusesPlanning, IsBuilt, RefusesBuilding, constructor_error}
 use Rattle.vx_plans.specs.Plans.{RefusesPlaces}
 use Rattle.vx_encodings.specs.declared.encoding.Encoding.TheVariants.{FixedSizeList}
@@ -90,7 +90,7 @@ lists_sized h us planned = (lists_plan planned.0 h us planned.1).sized
 
 -- Elements stand first, and at most a validity after them.
 few_of : (d : Typ) (n k : ℕ) (us : Trees) → plan d n k ≡ Some (places us) → (1 ≤ count us) × (count us ≤ 2) × (k ≡ count us)
-few_of (node (fixed_size_list s m) (more e end)) n k us p = behind_few (place e (n * s)) n k us (let_through (is_len (n * s)) _ _ p)
+few_of (node (fixed_size_list s m) (more e end)) n k us p = after_few (place e (n * s)) n k us (let_through (is_len (n * s)) _ _ p)
 few_of _ n k us p = absurd (cc)
 
 pub some_child : (h : ArrayHead) (us : Trees) (ts : List Tree) → (y : ExtMeaning) × IsPlanned y FixedSizeList h (places us) → roses_of ts ≡ us → 1 ≤ length ts
@@ -109,7 +109,7 @@ made : (h : ArrayHead) (us : Trees) (o : Tree) (v : Option Tree) (e : Typ) (s : 
 made h us o v e s m p q r =
     let planned = subst (λ (z : Trees). plan (typ h.dtype) h.len h.nchildren ≡ Some (places z)) (sym r) p.planned in
     let before = let_through (is_len (h.len * s)) _ _ (sym (plan_at h.dtype e s m h.len h.nchildren q) ∙ planned) in
-    let element : (label o).dtype ≡ e = ap (λ (z : Place). z.dtype) (behind_place (place e (h.len * s)) h.len h.nchildren o (option_trees v) before) in
+    let element : (label o).dtype ≡ e = ap (λ (z : Place). z.dtype) (after_place (place e (h.len * s)) h.len h.nchildren o (option_trees v) before) in
     ap (λ (z : Typ). node (untold (node (fixed_size_list s m) (more z end)) h.len B.fixed_size_list) (more o (option_trees v))) element
     ∙ ap (λ (z : Trees). node (untold (node (fixed_size_list s m) (more e end)) h.len B.fixed_size_list) z) r
     ∙ ap (λ (z : DType). node (untold (typ z) h.len B.fixed_size_list) us) (sym q)

@@ -1,5 +1,5 @@
 -- Messages of one number: bytes show at most one, and what is written of a small number is shown.
-use Rattle.std.proofs.Common.{ℕ, ◌≡◌, ◌^◌, ◌≤◌, ◌<◌, ◌==◌, ◌++◌, Bool, true, false, if◌then◌else◌, List, [], length, length-append, IsTrue, arith}
+use Rattle.std.proofs.Common.{ℕ, ◌≡◌, refl, sym, ap, ◌∙◌, ◌^◌, ◌≤◌, ◌<◌, ◌==◌, ◌++◌, Bool, true, false, if◌then◌else◌, List, [], length, length-append, IsTrue, arith}
 use Rattle.vx_proto.specs.declared.schema.ScalarKind.{ScalarKind}
 use Rattle.vx_proto.specs.declared.schema.ScalarKind.TheVariants.{Uint32, Enum}
 use Rattle.vx_proto.specs.Form.{HasForm, FormScalar}
@@ -10,7 +10,8 @@ use Rattle.vx_proto.specs.Written.{written, varint_bytes}
 use Rattle.vx_proto.proofs.LawsOfMessages.{reads_one, written_shown}
 use Rattle.vx_proto.proofs.LawsOfParts.{IsNumeric, whole_form}
 use Rattle.vx_proto.proofs.LawsOfBytes.{varint_spelled}
-use Rattle.vx_encodings.specs.NumberMessage.{number_schema, number_parts, number_value, number_bytes, same_value}
+use Rattle.vx_wire_tree.specs.Fields.{Fields}
+use Rattle.vx_encodings.specs.NumberMessage.{number_schema, number_parts, number_value, number_bytes, same_value, ShowsCoded}
 
 -- Bytes show one number at most.
 pub one_number : (k : ScalarKind) (bytes : List ℕ) (a b : ℕ) → Reads (number_schema k) 0 bytes (number_value a) → Reads (number_schema k) 0 bytes (number_value b) → a ≡ b
@@ -46,3 +47,21 @@ short _ n h lt = absurd h
 -- What is written of a number below 256 is read as it.
 pub number_again : (k : ScalarKind) (h : IsNumeric k) (n : ℕ) → IsSpelled k → IsTrue (is_lawful (number_schema k)) → FormScalar k (number n) → n < 256 → Reads (number_schema k) 0 (number_bytes k n) (number_value n)
 number_again k h n s lawful f lt = written_shown (number_schema k) 0 (number_value n) lawful (number_formed k h n f) (omega arith) (short k n s lt)
+
+module _ {A : Type 0} (code : A → ℕ) (codes : ℕ) (fields_of : A → Fields) where
+  -- Bytes are read as the message of one thing at most, where each code is that of one.
+  pub one_coded_read : ((x y : A) → code x ≡ code y → x ≡ y) → (bytes : List ℕ) (x y : A)
+      → Reads (number_schema (Enum codes)) 0 bytes (number_value (code x)) → Reads (number_schema (Enum codes)) 0 bytes (number_value (code y)) → x ≡ y
+  one_coded_read one bytes x y r s = one x y (one_number (Enum codes) bytes (code x) (code y) r s)
+
+  -- So they show the fields of one thing at most.
+  pub one_coded : ((x y : A) → code x ≡ code y → x ≡ y) → (bytes : List ℕ) (f g : Fields) → ShowsCoded code codes fields_of bytes f → ShowsCoded code codes fields_of bytes g → f ≡ g
+  one_coded one bytes f g a b = a.fields_are ∙ ap (λ (x : A). fields_of x) (one_coded_read one bytes a.coded b.coded a.reads b.reads) ∙ sym b.fields_are
+
+  -- What is written of a thing is read as it, where the codes are few.
+  pub coded_again : IsTrue (is_lawful (number_schema (Enum codes))) → codes < 256 → (x : A) → code x < codes → ShowsCoded code codes fields_of (number_bytes (Enum codes) (code x)) (fields_of x)
+  coded_again lawful few x lt = record {
+    coded = x;
+    reads = number_again (Enum codes) tt (code x) tt lawful (code x, refl, lt) (omega (arith, lt, few));
+    fields_are = refl;
+  }

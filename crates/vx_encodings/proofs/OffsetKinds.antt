@@ -14,7 +14,7 @@ use Rattle.vx_array_tree.specs.Table.{IsFair}
 use Rattle.vx_wire_tree.specs.Fields.{Fields}
 use Rattle.vx_wire_tree.specs.Fields as F
 use Rattle.vx_wire_tree.specs.Reads.{IsMetadata}
-use Rattle.vx_encodings.proofs.Numbers.{one_number, number_again}
+use Rattle.vx_encodings.proofs.Numbers.{one_coded_read, one_coded, coded_again}
 use Rattle.vx_encodings.specs.Messages.{codec}
 use Rattle.vx_encodings.specs.VarBinMessage.{varbin_schema, varbin_value, varbin_bytes, ShowsVarBin, one_kind_of_code}
 
@@ -52,25 +52,21 @@ kind_coded (suc (suc (suc (suc (suc (suc (suc (suc (suc (suc (suc n))))))))))) l
 
 -- Bytes are read as one kind at most.
 one_read : (bytes : List ℕ) (p q : PType) → Reads varbin_schema 0 bytes (varbin_value p) → Reads varbin_schema 0 bytes (varbin_value q) → p ≡ q
-one_read bytes p q r s = one_kind_of_code p q (one_number (Enum 11) bytes (code_of p) (code_of q) r s)
+one_read = one_coded_read code_of 11 (λ p. F.varbin p) one_kind_of_code
 
 -- Bytes show one kind at most.
 pub one_kind : (bytes : List ℕ) (f g : Fields) → ShowsVarBin bytes f → ShowsVarBin bytes g → f ≡ g
-one_kind bytes f g a b = a.fields_are ∙ ap (λ (p : PType). F.varbin p) (one_read bytes a.offsets_ptype b.offsets_ptype a.reads b.reads) ∙ sym b.fields_are
+one_kind = one_coded code_of 11 (λ p. F.varbin p) one_kind_of_code
 
 -- What is written of a kind is read as that kind.
 pub kind_again : (p : PType) → ShowsVarBin (varbin_bytes p) (F.varbin p)
-kind_again p = record {
-  offsets_ptype = p;
-  reads = number_again (Enum 11) tt (code_of p) tt refl (code_of p, refl, few_kinds p) (omega (arith, few_kinds p));
-  fields_are = refl;
-}
+kind_again p = coded_again code_of 11 (λ q. F.varbin q) refl (omega arith) p (few_kinds p)
 
 -- Bytes that show a kind of integers are metadata of texts and of bytes.
 pub varbin_metadata : (x : ExtMeaning) (d : Typ) (bytes : List ℕ) (p : PType) → Reads varbin_schema 0 bytes (varbin_value p) → IsTrue (is_integer p) → IsMetadata codec x E.varbin d bytes (M.varbin p)
 varbin_metadata x d bytes p r h = record {
   fields = F.varbin p;
-  shown = record { offsets_ptype = p; reads = r; fields_are = refl };
+  shown = record { coded = p; reads = r; fields_are = refl };
   meaning = refl;
   fair = h;
   known = tt;
@@ -88,9 +84,9 @@ meant_kind d f p v e m = sym m ∙ ap (λ (z : Fields). F.meant d z) e
 
 pub varbin_kind : (x : ExtMeaning) (d : Typ) (bytes : List ℕ) (v : Metadata) → IsMetadata codec x E.varbin d bytes v → ReadsKind bytes v
 varbin_kind x d bytes v m =
-    let e = meant_kind d m.fields m.shown.offsets_ptype v m.shown.fields_are m.meaning in
+    let e = meant_kind d m.fields m.shown.coded v m.shown.fields_are m.meaning in
     record {
-      offsets_ptype = m.shown.offsets_ptype;
+      offsets_ptype = m.shown.coded;
       reads = m.shown.reads;
       value_is = e;
       integer = subst (λ (z : Metadata). IsFair E.varbin z) e m.fair;

@@ -17,7 +17,7 @@ use Rattle.vx_array_tree.specs.Encodings.Structs.{plan}
 use Rattle.vx_array_tree.specs.Metadata.{Metadata}
 use Rattle.vx_array_tree.specs.Metadata as M
 use Rattle.vx_array_tree.specs.Place.{Place, place, places_at, validity_place}
-use Rattle.vx_array_tree.specs.Place.{behind_validity as behind}
+use Rattle.vx_array_tree.specs.Place.{after_validity as after}
 use Rattle.vx_array_tree.specs.Table.{IsShaped, body_of, plan_of}
 use Rattle.vx_array_tree.specs.Tree.{Tree, Trees, places, untold}
 use Rattle.vx_arrays.specs.Refused.{RefusesMaking}
@@ -25,7 +25,7 @@ use Rattle.vx_arrays.specs.Structs.{IsOfFields, struct_head}
 use Rattle.vx_rows.specs.declared.error.ArrayError.{ArrayError}
 use Rattle.vx_encodings.proofs.Bare.{struct_metadata, struct_nothing}
 use Rattle.vx_encodings.proofs.Fitting.{constructor_refused}
-use Rattle.vx_array_tree.proofs.LawsOfPlaces.{IsBehind, behind_is, behind_self, behind_one, behind_other, places_count}
+use Rattle.vx_array_tree.proofs.LawsOfPlaces.{IsAfter, after_is, after_self, after_one, after_other, places_count}
 use Rattle.vx_encodings.proofs.Singles.{single_unplanned, single_built}
 use Rattle.vx_encodings.specs.Steps.{IsPlanned, RefusesPlanning, IsBuilt, RefusesBuilding, constructor_error}
 use Rattle.vx_plans.specs.Plans.{RefusesPlaces}
@@ -44,26 +44,26 @@ structures_unread x h b v m = b (struct_nothing x (typ h.dtype) h.metadata v m).
 pub structures_unplanned : (x : ExtMeaning) (h : ArrayHead) → h.metadata ≡ [] → plan (typ h.dtype) h.len h.nchildren ≡ None → RefusesPlanning BadShape x Struct h
 structures_unplanned x h b e = single_unplanned x Struct h M.empty (struct_metadata x (typ h.dtype) h.metadata b) e
 
-plan_at : (d : DType) (f : Fields) (m : Nullability) (n k : ℕ) → d ≡ D.Struct f m → plan (typ d) n k ≡ behind (places_at (roses_of f.types) n) n k
+plan_at : (d : DType) (f : Fields) (m : Nullability) (n k : ℕ) → d ≡ D.Struct f m → plan (typ d) n k ≡ after (places_at (roses_of f.types) n) n k
 plan_at d f m n k q = ap (λ (z : DType). plan (typ z) n k) q
 
 -- The result for a validity and the fields is the result for the node.
 pub structures_planned : (x : ExtMeaning) (h : ArrayHead) (r : Result (List Place) EncodingError) (f : Fields) (ds : List Typ) (m : Nullability) → h.metadata ≡ [] → h.dtype ≡ D.Struct f m → ds ≡ f.types
-    → IfOk r (λ ps. behind (places_at (roses_of ds) h.len) h.len h.nchildren ≡ Some ps) → IfOk r (λ ps. IsPlanned x Struct h ps)
+    → IfOk r (λ ps. after (places_at (roses_of ds) h.len) h.len h.nchildren ≡ Some ps) → IfOk r (λ ps. IsPlanned x Struct h ps)
 structures_planned x h (Ok ps) f ds m b q g p =
     record {
       value = M.empty;
       metadata = struct_metadata x (typ h.dtype) h.metadata b;
-      plan = plan_at h.dtype f m h.len h.nchildren q ∙ ap (λ (zs : List Typ). behind (places_at (roses_of zs) h.len) h.len h.nchildren) (sym g) ∙ p;
+      plan = plan_at h.dtype f m h.len h.nchildren q ∙ ap (λ (zs : List Typ). after (places_at (roses_of zs) h.len) h.len h.nchildren) (sym g) ∙ p;
     }
 structures_planned x h (Err error) f ds m b q g p = tt
 
 pub structures_without : (error : EncodingError) (x : ExtMeaning) (h : ArrayHead) (f : Fields) (ds : List Typ) (m : Nullability) → h.metadata ≡ [] → h.dtype ≡ D.Struct f m → ds ≡ f.types
-    → RefusesPlaces error (behind (places_at (roses_of ds) h.len) h.len h.nchildren) → RefusesPlanning error x Struct h
+    → RefusesPlaces error (after (places_at (roses_of ds) h.len) h.len h.nchildren) → RefusesPlanning error x Struct h
 structures_without OutOfMemory x h f ds m b q g w = tt
 structures_without BadMetadata x h f ds m b q g w = absurd w
 structures_without BadShape x h f ds m b q g w =
-    structures_unplanned x h b (plan_at h.dtype f m h.len h.nchildren q ∙ ap (λ (zs : List Typ). behind (places_at (roses_of zs) h.len) h.len h.nchildren) (sym g) ∙ w)
+    structures_unplanned x h b (plan_at h.dtype f m h.len h.nchildren q ∙ ap (λ (zs : List Typ). after (places_at (roses_of zs) h.len) h.len h.nchildren) (sym g) ∙ w)
 structures_without _ x h f ds m b q g w = absurd w
 
 -- A place for each field.
@@ -71,25 +71,25 @@ pub fields_length : (ds : List DType) (n : ℕ) → length (places_at (roses_of 
 fields_length [] n = refl
 fields_length (d ∷ ds) n = ap (λ k. suc k) (fields_length ds n)
 
-without_front : (ds : List DType) (n k : ℕ) → k ≡ length ds → behind (places_at (roses_of (typs ds)) n) n k ≡ Some (places_at (roses_of (typs ds)) n)
-without_front ds n k e = behind_self (places_at (roses_of (typs ds)) n) n k (e ∙ sym (fields_length ds n))
+without_front : (ds : List DType) (n k : ℕ) → k ≡ length ds → after (places_at (roses_of (typs ds)) n) n k ≡ Some (places_at (roses_of (typs ds)) n)
+without_front ds n k e = after_self (places_at (roses_of (typs ds)) n) n k (e ∙ sym (fields_length ds n))
 
-with_front : (ds : List DType) (n k : ℕ) → k ≡ suc (length ds) → behind (places_at (roses_of (typs ds)) n) n k ≡ Some (validity_place n ∷ places_at (roses_of (typs ds)) n)
-with_front ds n k e = behind_one (places_at (roses_of (typs ds)) n) n k (e ∙ ap (λ j. suc j) (sym (fields_length ds n)))
+with_front : (ds : List DType) (n k : ℕ) → k ≡ suc (length ds) → after (places_at (roses_of (typs ds)) n) n k ≡ Some (validity_place n ∷ places_at (roses_of (typs ds)) n)
+with_front ds n k e = after_one (places_at (roses_of (typs ds)) n) n k (e ∙ ap (λ j. suc j) (sym (fields_length ds n)))
 
-pub in_no_way : (ds : List DType) (n k : ℕ) → (k ≡ length ds → ⊥) → (k ≡ suc (length ds) → ⊥) → behind (places_at (roses_of (typs ds)) n) n k ≡ None
+pub in_no_way : (ds : List DType) (n k : ℕ) → (k ≡ length ds → ⊥) → (k ≡ suc (length ds) → ⊥) → after (places_at (roses_of (typs ds)) n) n k ≡ None
 in_no_way ds n k h g =
-    behind_other (places_at (roses_of (typs ds)) n) n k (λ e. h (e ∙ fields_length ds n)) (λ e. g (e ∙ ap (λ j. suc j) (fields_length ds n)))
+    after_other (places_at (roses_of (typs ds)) n) n k (λ e. h (e ∙ fields_length ds n)) (λ e. g (e ∙ ap (λ j. suc j) (fields_length ds n)))
 
 -- The result for the fields after these places is the result for an optional validity in front of them.
 pub without_front_planned : (r : Result (List Place) EncodingError) (front : List Place) (ds : List DType) (n k : ℕ) → front ≡ [] → k ≡ length ds
-    → IfOk r (λ ps. ps ≡ front ++ places_at (roses_of (typs ds)) n) → IfOk r (λ ps. behind (places_at (roses_of (typs ds)) n) n k ≡ Some ps)
+    → IfOk r (λ ps. ps ≡ front ++ places_at (roses_of (typs ds)) n) → IfOk r (λ ps. after (places_at (roses_of (typs ds)) n) n k ≡ Some ps)
 without_front_planned (Ok ps) front ds n k f e p =
     without_front ds n k e ∙ ap (λ (qs : List Place). Some qs) (sym (p ∙ ap (λ (qs : List Place). qs ++ places_at (roses_of (typs ds)) n) f))
 without_front_planned (Err error) front ds n k f e p = tt
 
 pub with_front_planned : (r : Result (List Place) EncodingError) (front none : List Place) (v : Place) (ds : List DType) (n k : ℕ) → none ≡ [] → v ≡ validity_place n → front ≡ none ++ v ∷ [] → k ≡ suc (length ds)
-    → IfOk r (λ ps. ps ≡ front ++ places_at (roses_of (typs ds)) n) → IfOk r (λ ps. behind (places_at (roses_of (typs ds)) n) n k ≡ Some ps)
+    → IfOk r (λ ps. ps ≡ front ++ places_at (roses_of (typs ds)) n) → IfOk r (λ ps. after (places_at (roses_of (typs ds)) n) n k ≡ Some ps)
 with_front_planned (Ok ps) front none v ds n k o w f e p =
     let q = f ∙ ap (λ (qs : List Place). qs ++ v ∷ []) o ∙ ap (λ (z : Place). z ∷ []) w in
     with_front ds n k e ∙ ap (λ (qs : List Place). Some qs) (sym (p ∙ ap (λ (qs : List Place). qs ++ places_at (roses_of (typs ds)) n) q))
@@ -132,17 +132,17 @@ structures_plan x h us p =
 pub structures_fielded : (h : ArrayHead) (us : Trees) → (y : ExtMeaning) × IsPlanned y Struct h (places us) → IsOfFields (typ h.dtype)
 structures_fielded h us planned = (structures_plan planned.0 h us planned.1).fielded
 
-behind_count : (ps : List Place) (n k : ℕ) (us : Trees) → behind ps n k ≡ Some (places us) → k ≡ count us
-behind_count ps n k us p = by (behind_is ps n k (places us) p)
+after_count : (ps : List Place) (n k : ℕ) (us : Trees) → after ps n k ≡ Some (places us) → k ≡ count us
+after_count ps n k us p = by (after_is ps n k (places us) p)
   where
-    by : IsBehind ps n k (places us) → k ≡ count us
+    by : IsAfter ps n k (places us) → k ≡ count us
     by b = elim (b.ways) [
       | inl x ↦ x.0 ∙ ap (λ (qs : List Place). length qs) (sym x.1) ∙ places_count us
       | inr x ↦ x.0 ∙ ap (λ (qs : List Place). length qs) (sym x.1) ∙ places_count us
     ]
 
 count_of : (d : Typ) (n k : ℕ) (us : Trees) → plan d n k ≡ Some (places us) → k ≡ count us
-count_of (node (structure names m) ts) n k us p = behind_count (places_at ts n) n k us p
+count_of (node (structure names m) ts) n k us p = after_count (places_at ts n) n k us p
 count_of _ n k us p = absurd (cc)
 
 -- What the constructor makes is the node of the head's type and length over the children.

@@ -16,18 +16,18 @@ validity_few n (suc zero) (more u (more v us)) e = absurd (cc)
 validity_few n (suc (suc k)) us e = absurd (cc)
 
 -- Where a validity may stand after one child, there are at most two.
-pub behind_few : (p : Place) (n k : ℕ) (us : Trees) → before_validity (p ∷ []) n k ≡ Some (places us) → (1 ≤ count us) × (count us ≤ 2) × (k ≡ count us)
-behind_few p n zero us e = absurd (cc)
-behind_few p n (suc k) end e = let m = mapped (λ (qs : List Place). p ∷ qs) (before_validity [] n k) [] e in absurd (no_places p m.0 m.1)
+pub after_few : (p : Place) (n k : ℕ) (us : Trees) → before_validity (p ∷ []) n k ≡ Some (places us) → (1 ≤ count us) × (count us ≤ 2) × (k ≡ count us)
+after_few p n zero us e = absurd (cc)
+after_few p n (suc k) end e = let m = mapped (λ (qs : List Place). p ∷ qs) (before_validity [] n k) [] e in absurd (no_places p m.0 m.1)
   where
     no_places : (p : Place) (ps : List Place) → [] ≡ p ∷ ps → ⊥
     no_places p ps e = absurd (cc)
-behind_few p n (suc k) (more u us) e =
+after_few p n (suc k) (more u us) e =
     let m = mapped (λ (qs : List Place). p ∷ qs) (before_validity [] n k) (places (more u us)) e in
     let few = validity_few n k us (m.2 ∙ ap (λ (z : List Place). Some z) (sym (tails _ _ _ _ (m.1)))) in
     (omega arith, omega (arith, few.0), ap (λ j. suc j) few.1)
 
 -- The child in front of it is at its place.
-pub behind_place : (p : Place) (n k : ℕ) (o : Tree) (vs : Trees) → before_validity (p ∷ []) n k ≡ Some (places (more o vs)) → place (label o).dtype (label o).len ≡ p
-behind_place p n zero o vs e = absurd (cc)
-behind_place p n (suc k) o vs e = let m = mapped (λ (qs : List Place). p ∷ qs) (before_validity [] n k) (places (more o vs)) e in heads _ _ _ _ (m.1)
+pub after_place : (p : Place) (n k : ℕ) (o : Tree) (vs : Trees) → before_validity (p ∷ []) n k ≡ Some (places (more o vs)) → place (label o).dtype (label o).len ≡ p
+after_place p n zero o vs e = absurd (cc)
+after_place p n (suc k) o vs e = let m = mapped (λ (qs : List Place). p ∷ qs) (before_validity [] n k) (places (more o vs)) e in heads _ _ _ _ (m.1)

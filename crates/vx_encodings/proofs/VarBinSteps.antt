@@ -26,7 +26,7 @@ use Rattle.vx_rows.specs.declared.error.ArrayError.{ArrayError}
 use Rattle.vx_encodings.proofs.Fitting.{constructor_refused}
 use Rattle.vx_encodings.proofs.OffsetKinds.{varbin_metadata, varbin_kind, kind_is_integer}
 use Rattle.vx_encodings.proofs.Singles.{single_unplanned, single_built, single_buffers}
-use Rattle.vx_encodings.proofs.Validities.{behind_few, behind_place}
+use Rattle.vx_encodings.proofs.Validities.{after_few, after_place}
 use Rattle.vx_encodings.specs.Steps.{IsPlanned, RefusesPlanning, IsBuilt, RefusesBuilding, RefusesMetadata, constructor_error}
 use Rattle.vx_plans.specs.Plans.{RefusesPlaces}
 use Rattle.vx_encodings.specs.VarBinMessage.{varbin_schema, varbin_value}
@@ -137,13 +137,13 @@ varbin_plan x h us p =
 pub some_child : (h : ArrayHead) (us : Trees) (ts : List Tree) → (y : ExtMeaning) × IsPlanned y VarBin h (places us) → roses_of ts ≡ us → 1 ≤ length ts
 some_child h us ts planned e =
     let p = varbin_plan planned.0 h us planned.1 in
-    let f = behind_few (place (numbers p.kind) (suc h.len)) h.len h.nchildren us p.children in
+    let f = after_few (place (numbers p.kind) (suc h.len)) h.len h.nchildren us p.children in
     omega (arith, f.0, count-roses_of ts, ap (λ z. count z) e)
 
 pub few_children : (h : ArrayHead) (us : Trees) (ts : List Tree) → (y : ExtMeaning) × IsPlanned y VarBin h (places us) → roses_of ts ≡ us → length ts ≤ 2
 few_children h us ts planned e =
     let p = varbin_plan planned.0 h us planned.1 in
-    let f = behind_few (place (numbers p.kind) (suc h.len)) h.len h.nchildren us p.children in
+    let f = after_few (place (numbers p.kind) (suc h.len)) h.len h.nchildren us p.children in
     omega (arith, f.1, count-roses_of ts, ap (λ z. count z) e)
 
 -- What the constructor makes is the node of the head's type and length over the children.
@@ -151,7 +151,7 @@ made : (h : ArrayHead) (us : Trees) (o : Tree) (b : Buffer) (v : Option Tree) �
     → varbin_tree (typ h.dtype) o b v ≡ node (untold (typ h.dtype) h.len (B.varbin (record { bytes = b }))) us
 made h us o b v p e =
     let q = subst (λ (z : Trees). before_validity (place (numbers p.kind) (suc h.len) ∷ []) h.len h.nchildren ≡ Some (places z)) (sym e) p.children in
-    let l : (label o).len ≡ suc h.len = ap (λ (z : Place). z.len) (behind_place (place (numbers p.kind) (suc h.len)) h.len h.nchildren o (option_trees v) q) in
+    let l : (label o).len ≡ suc h.len = ap (λ (z : Place). z.len) (after_place (place (numbers p.kind) (suc h.len)) h.len h.nchildren o (option_trees v) q) in
     let n : (label o).len - 1 ≡ h.len = omega (arith, l) in
     rw (n, e) refl
 
@@ -167,7 +167,7 @@ pub varbins_refused : (x : ExtMeaning) (error : ArrayError) (h : ArrayHead) (bs 
     → (y : ExtMeaning) × IsPlanned y VarBin h (places us) → bs ≡ b ∷ [] → more o (option_trees v) ≡ us → RefusesMaking error (varbin_tree (typ h.dtype) o b v) → RefusesBuilding (constructor_error error) x VarBin h bs us
 varbins_refused x error h bs us o b v planned p e refused =
     let k = varbin_plan planned.0 h us planned.1 in
-    let f = behind_few (place (numbers k.kind) (suc h.len)) h.len h.nchildren us k.children in
+    let f = after_few (place (numbers k.kind) (suc h.len)) h.len h.nchildren us k.children in
     let counted : plan (typ h.dtype) h.len k.kind (count us) ≡ Some (places us) = subst (λ (j : ℕ). plan (typ h.dtype) h.len k.kind j ≡ Some (places us)) f.2 k.planned in
     constructor_refused x VarBin h (M.varbin k.kind) (varbin_metadata x (typ h.dtype) h.metadata k.kind k.reads k.integer) error bs us (B.varbin (record { bytes = b })) (varbin_tree (typ h.dtype) o b v)
     (rw p refl) k.integer counted refl tt (made h us o b v k e) refused

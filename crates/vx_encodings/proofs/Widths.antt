@@ -13,7 +13,7 @@ use Rattle.vx_array_tree.specs.Metadata as M
 use Rattle.vx_wire_tree.specs.Fields.{Fields}
 use Rattle.vx_wire_tree.specs.Fields as F
 use Rattle.vx_wire_tree.specs.Reads.{IsMetadata}
-use Rattle.vx_encodings.proofs.Numbers.{one_number, number_again}
+use Rattle.vx_encodings.proofs.Numbers.{one_coded_read, one_coded, coded_again}
 use Rattle.vx_encodings.specs.DecimalMessage.{decimal_schema, decimal_value, decimal_bytes, ShowsDecimal, one_width_of_code}
 use Rattle.vx_encodings.specs.Messages.{codec}
 
@@ -41,25 +41,21 @@ width_coded (suc (suc (suc (suc (suc (suc n)))))) lt = absurd (omega (arith, lt)
 
 -- Bytes are read as one width at most.
 one_read : (bytes : List ℕ) (v w : DecimalType) → Reads decimal_schema 0 bytes (decimal_value v) → Reads decimal_schema 0 bytes (decimal_value w) → v ≡ w
-one_read bytes v w r s = one_width_of_code v w (one_number (Enum 6) bytes (decimal_code_of v) (decimal_code_of w) r s)
+one_read = one_coded_read decimal_code_of 6 (λ w. F.decimal w) one_width_of_code
 
 -- Bytes show one width at most.
 pub one_width : (bytes : List ℕ) (f g : Fields) → ShowsDecimal bytes f → ShowsDecimal bytes g → f ≡ g
-one_width bytes f g a b = a.fields_are ∙ ap (λ (w : DecimalType). F.decimal w) (one_read bytes a.values_type b.values_type a.reads b.reads) ∙ sym b.fields_are
+one_width = one_coded decimal_code_of 6 (λ w. F.decimal w) one_width_of_code
 
 -- What is written of a width is read as that width.
 pub width_again : (w : DecimalType) → ShowsDecimal (decimal_bytes w) (F.decimal w)
-width_again w = record {
-  values_type = w;
-  reads = number_again (Enum 6) tt (decimal_code_of w) tt refl (decimal_code_of w, refl, few_codes w) (omega (arith, few_codes w));
-  fields_are = refl;
-}
+width_again w = coded_again decimal_code_of 6 (λ v. F.decimal v) refl (omega arith) w (few_codes w)
 
 -- Bytes that show a width are metadata of decimals.
 pub decimal_metadata : (x : ExtMeaning) (d : Typ) (bytes : List ℕ) (w : DecimalType) → Reads decimal_schema 0 bytes (decimal_value w) → IsMetadata codec x E.decimal d bytes (M.decimal w)
 decimal_metadata x d bytes w r = record {
   fields = F.decimal w;
-  shown = record { values_type = w; reads = r; fields_are = refl };
+  shown = record { coded = w; reads = r; fields_are = refl };
   meaning = refl;
   fair = tt;
   known = tt;
@@ -73,7 +69,7 @@ pub record ReadsWidth (bytes : List ℕ) (v : Metadata) : Type 0 where
 
 pub decimal_width : (x : ExtMeaning) (d : Typ) (bytes : List ℕ) (v : Metadata) → IsMetadata codec x E.decimal d bytes v → ReadsWidth bytes v
 decimal_width x d bytes v m = record {
-  values_type = m.shown.values_type;
+  values_type = m.shown.coded;
   reads = m.shown.reads;
   value_is = sym m.meaning ∙ ap (λ (z : Fields). F.meant d z) m.shown.fields_are;
 }

@@ -1,16 +1,14 @@
 -- The message of the metadata of decimals.
 use Rattle.std.specs.Prelude.{◌≡◌, ℕ, zero, suc, List, refl}
-use Rattle.std.proofs.Common.{sym, ap, ◌∙◌}
 use Rattle.vx_numbers.specs.Decimals.{decimal_code_of}
 use Rattle.vx_numbers.specs.declared.decimal_type.DecimalType.{DecimalType}
 use Rattle.vx_numbers.specs.declared.decimal_type.DecimalType.TheVariants.{I8, I16, I32, I64, I128, I256}
 use Rattle.vx_proto.specs.declared.schema.ScalarKind.TheVariants.{Enum}
-use Rattle.vx_proto.specs.Reads.{Reads}
 use Rattle.vx_proto.specs.Schema.{Schema}
 use Rattle.vx_proto.specs.Value.{Value}
 use Rattle.vx_wire_tree.specs.Fields.{Fields}
 use Rattle.vx_wire_tree.specs.Fields as F
-use Rattle.vx_encodings.specs.NumberMessage.{number_schema, number_value, number_bytes, same_value}
+use Rattle.vx_encodings.specs.NumberMessage.{number_schema, number_value, number_bytes, same_value, ShowsCoded, one_of_code}
 
 -- It has one number: the code of the width, one of six.
 abbrev pub decimal_schema : Schema
@@ -21,10 +19,8 @@ abbrev pub decimal_value : DecimalType → Value
 decimal_value w = number_value (decimal_code_of w)
 
 -- Bytes show a width where they are read as its message.
-pub record ShowsDecimal (bytes : List ℕ) (f : Fields) : Type 0 where
-  pub values_type : DecimalType
-  pub reads : Reads decimal_schema 0 bytes (decimal_value values_type)
-  pub fields_are : f ≡ F.decimal values_type
+abbrev pub ShowsDecimal : List ℕ → Fields → Type 0
+ShowsDecimal = ShowsCoded decimal_code_of 6 (λ w. F.decimal w)
 
 -- The bytes of the message of a width: none for the least, which is the default.
 abbrev pub decimal_bytes : DecimalType → List ℕ
@@ -50,7 +46,7 @@ width_of_code_of I256 = refl
 
 -- So each code is that of one width, and each plain value, too.
 pub one_width_of_code : (v w : DecimalType) → decimal_code_of v ≡ decimal_code_of w → v ≡ w
-one_width_of_code v w e = sym (width_of_code_of v) ∙ ap (λ n. width_of_code n) e ∙ width_of_code_of w
+one_width_of_code = one_of_code decimal_code_of width_of_code width_of_code_of
 
 pub same_width : (v w : DecimalType) → decimal_value v ≡ decimal_value w → v ≡ w
 same_width v w e = one_width_of_code v w (same_value (decimal_code_of v) (decimal_code_of w) e)

@@ -1,16 +1,14 @@
 -- The message of the metadata of texts and of bytes by offsets.
 use Rattle.std.specs.Prelude.{◌≡◌, ℕ, zero, suc, List, refl}
-use Rattle.std.proofs.Common.{sym, ap, ◌∙◌}
 use Rattle.vx_numbers.specs.Numbers.{code_of}
 use Rattle.vx_numbers.specs.declared.ptype.PType.{PType}
 use Rattle.vx_numbers.specs.declared.ptype.PType.TheVariants.{U8, U16, U32, U64, I8, I16, I32, I64, F16, F32, F64}
 use Rattle.vx_proto.specs.declared.schema.ScalarKind.TheVariants.{Enum}
-use Rattle.vx_proto.specs.Reads.{Reads}
 use Rattle.vx_proto.specs.Schema.{Schema}
 use Rattle.vx_proto.specs.Value.{Value}
 use Rattle.vx_wire_tree.specs.Fields.{Fields}
 use Rattle.vx_wire_tree.specs.Fields as F
-use Rattle.vx_encodings.specs.NumberMessage.{number_schema, number_value, number_bytes, same_value}
+use Rattle.vx_encodings.specs.NumberMessage.{number_schema, number_value, number_bytes, same_value, ShowsCoded, one_of_code}
 
 -- It has one number: the code of the kind of the offsets, one of eleven.
 abbrev pub varbin_schema : Schema
@@ -21,10 +19,8 @@ abbrev pub varbin_value : PType → Value
 varbin_value p = number_value (code_of p)
 
 -- Bytes show a kind where they are read as its message.
-pub record ShowsVarBin (bytes : List ℕ) (f : Fields) : Type 0 where
-  pub offsets_ptype : PType
-  pub reads : Reads varbin_schema 0 bytes (varbin_value offsets_ptype)
-  pub fields_are : f ≡ F.varbin offsets_ptype
+abbrev pub ShowsVarBin : List ℕ → Fields → Type 0
+ShowsVarBin = ShowsCoded code_of 11 (λ p. F.varbin p)
 
 -- The bytes of the message of a kind: none for the first, which is the default.
 abbrev pub varbin_bytes : PType → List ℕ
@@ -60,7 +56,7 @@ kind_of_code_of F64 = refl
 
 -- So each code is that of one kind, and each plain value, too.
 pub one_kind_of_code : (p q : PType) → code_of p ≡ code_of q → p ≡ q
-one_kind_of_code p q e = sym (kind_of_code_of p) ∙ ap (λ n. kind_of_code n) e ∙ kind_of_code_of q
+one_kind_of_code = one_of_code code_of kind_of_code kind_of_code_of
 
 pub same_kind : (p q : PType) → varbin_value p ≡ varbin_value q → p ≡ q
 same_kind p q e = one_kind_of_code p q (same_value (code_of p) (code_of q) e)

@@ -4,7 +4,6 @@
 //! encodings, and passes it on to those files by a line for each.
 #![tactic(auto)]
 
-mod buffers;
 mod empty_metadata;
 mod encoding;
 mod encodings;

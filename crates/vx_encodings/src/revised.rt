@@ -15,7 +15,7 @@ const SECOND: &'static str = "vortex.primitive.v2";
 const MOST: usize = 4;
 
 /// Whether nodes of this identifier hold `len` rows, where primitives have two identifiers: `false` exactly for
-/// `vortex.primitive` and more than four rows.
+/// `vortex.primitive` and more than four rows. The new identifier holds any number of rows.
 pub fn revised_holds(id: &Id, len: usize) -> bool
     ensures { result ≡ holds id.now len }
 {

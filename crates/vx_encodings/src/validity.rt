@@ -6,7 +6,7 @@ ghost use Rattle.vx_array_tree.specs.Tree.{option_trees};
 
 use vx_arrays::Array;
 
-// The validity of a node that has no other children.
+// The validity of a node that has no other children. It is taken from the end, so that nothing moves.
 pub(crate) fn only_validity(children: Vec<Array>) -> Option<Array>
     requires { length children.items ≤ 1 }
     ensures { option_trees result ≡ roses_of children.items }

@@ -1,11 +1,11 @@
 -- Lists of expressions and of their trees, element by element.
-use Rattle.std.specs.Prelude.{ℕ, zero, suc, ◌+◌, ◌*◌, ◌<◌, ◌≡◌, List, [], ◌∷◌, ◌++◌, length, take, refl}
+use Rattle.std.specs.Prelude.{ℕ, ◌+◌, ◌*◌, ◌<◌, ◌≡◌, List, [], ◌∷◌, ◌++◌, length, take, refl}
 use Rattle.std.proofs.Common.{arith, get_or, sym, ap, ◌∙◌, subst}
-use Rattle.std.proofs.lemmas.List.{take_more}
+use Rattle.std.proofs.lemmas.List.{length-map, map-append, take_more}
 use Rattle.vx_trees.specs.Rose.{Roses, node, roses_of}
 use Rattle.vx_trees.specs.Everywhere.{Everywhere, EverywhereBelow}
 use Rattle.vx_trees.specs.Walks.{nodes, nodes_of}
-use Rattle.vx_trees.proofs.Counting.{nodes-at}
+use Rattle.vx_trees.proofs.LawsOfMapped.{mapped-at, mapped-nodes}
 use Rattle.vx_trees.proofs.Lists.{count-roses_of}
 use Rattle.vx_trees.proofs.Holding.{everywhere_below-snoc, everywhere-at}
 use Rattle.vx_proto.specs.Repeated.{members, as_message, messages}
@@ -20,24 +20,17 @@ use Rattle.vx_fn_wire.specs.declared.expression.Expression.{Expression}
 use Rattle.vx_fn_wire.specs.declared.scalar_fn.ScalarFn.{ScalarFn}
 
 pub exprs-length : (es : List Expression) → length (exprs es) ≡ length es
-exprs-length [] = refl
-exprs-length (e ∷ es) = ap (λ n. suc n) (exprs-length es)
+exprs-length es = length-map es expr
 
 pub exprs-at : (es : List Expression) (i : ℕ) (e : Expression) → get_or (exprs es) i (expr e) ≡ expr (get_or es i e)
-exprs-at [] i e = refl
-exprs-at (x ∷ es) zero e = refl
-exprs-at (x ∷ es) (suc i) e = exprs-at es i e
+exprs-at es i e = mapped-at expr es i e
 
 pub exprs-push : (es : List Expression) (e : Expression) → exprs (es ++ e ∷ []) ≡ exprs es ++ expr e ∷ []
-exprs-push [] e = refl
-exprs-push (x ∷ es) e = ap (λ r. expr x ∷ r) (exprs-push es e)
+exprs-push es e = map-append expr es (e ∷ [])
 
 -- An element is smaller than the list.
 pub size-at : (es : List Expression) (i : ℕ) (e : Expression) → i < length es → expr_size (expr (get_or es i e)) < slice_size (exprs es)
-size-at es i e h =
-    let g : i < length (exprs es) = omega (arith, h, exprs-length es) in
-    let f : expr_size (get_or (exprs es) i (expr e)) < slice_size (exprs es) = omega (arith, nodes-at (exprs es) i (expr e) g) in
-    subst (λ t. expr_size t < slice_size (exprs es)) (exprs-at es i e) f
+size-at es i e h = omega (arith, mapped-nodes expr es i e h)
 
 pub nodes_at : (es : List Expression) (i : ℕ) (e : Expression) → i < length es → e ≡ get_or es i e → 4 * nodes (expr e) < 4 * nodes_of (roses_of (exprs es)) + 1
 nodes_at es i e h is = subst (λ x. expr_size (expr x) < slice_size (exprs es)) (sym is) (size-at es i e h)

@@ -37,4 +37,4 @@ too_many [] n (suc (suc k)) h m = refl
 too_many (p ∷ ps) n zero h m = absurd (omega (arith, h))
 too_many (p ∷ ps) n (suc k) h m = mapped_none p (before_validity ps n k) (too_many ps n k (omega (arith, h)) (omega (arith, h, m)))
 
-pub ruleset behind_all = (as_many, one_more, too_few, too_many)
+pub ruleset after_all = (as_many, one_more, too_few, too_many)

@@ -9,4 +9,4 @@ mod validity;
 pub use error::EncodingError;
 pub use head::ArrayHead;
 pub use plans::{ChildPlan, ChildPlans, plan_of, plan_only};
-pub use validity::{plan_behind, plan_behind_all, plan_validity, validity_of};
+pub use validity::{plan_after, plan_after_all, plan_validity, validity_of};

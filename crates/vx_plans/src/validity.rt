@@ -38,7 +38,7 @@ pub fn plan_validity(alloc: Global, len: usize, count: usize) -> Result<ChildPla
 
 /// The plan of one child, and after it that of a validity where `count` is 2. `BadShape` exactly where
 /// `count` is 0 or over 2.
-pub fn plan_behind(
+pub fn plan_after(
     alloc: Global,
     first: ChildPlan,
     len: usize,
@@ -61,8 +61,8 @@ pub fn plan_behind(
 
 /// These plans, and after them that of a validity where `count` is one more than their number.
 /// `BadShape` exactly where `count` is smaller than their number, or larger by more than one.
-#[tactic(auto, using(crate::proofs::Validities::behind_all))]
-pub fn plan_behind_all(
+#[tactic(auto, using(crate::proofs::Validities::after_all))]
+pub fn plan_after_all(
     front: ChildPlans,
     len: usize,
     count: usize,

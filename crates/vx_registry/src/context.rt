@@ -1,5 +1,5 @@
-ghost use Rattle.std.specs.Prelude.{◌≡◌, ◌≤◌, ◌<◌, [], ◌∷◌, ◌++◌, true, false, None, Some, IfOk, IfNone, IfSome, OnErr, OnOk, IsOkUnless, option_map};
-ghost use Rattle.vx_wire_tree.specs.Context.{interned, is_allowed, is_among, index_of, with_ids};
+ghost use Rattle.std.specs.Prelude.{◌≡◌, ◌≤◌, ◌<◌, [], ◌∷◌, ◌++◌, true, false, None, Some, IfOk, IfNone, IfSome, OnErr, OnOk, IsOkUnless, option_map, option_copied, slice_get, length};
+ghost use Rattle.vx_wire_tree.specs.Context.{interned, is_allowed, is_among, index_of, truncated, with_ids};
 
 use crate::error::RegistryError;
 use crate::named::named;
@@ -85,6 +85,29 @@ impl ArrayContext {
             Some(index) => Ok(place(index)),
             None => self.append(id),
         }
+    }
+
+    /// The number of identifiers.
+    pub fn len(&self) -> usize
+        ensures { result ≡ length self.now.ids }
+    {
+        self.ids.len()
+    }
+
+    /// The identifier of this number: `None` exactly where `index` is past the end.
+    pub fn get(&self, index: usize) -> Option<&Id>
+        ensures { option_copied result ≡ slice_get self.now.ids index }
+    {
+        self.ids.get_index(index)
+    }
+
+    /// Keeps the identifiers numbered below `len` and drops the others; which are allowed stays. Where there are no
+    /// more than `len`, nothing changes. It takes no memory, so a writer whose array is refused can go back to the
+    /// context that it had.
+    pub fn truncate(&mut self, len: usize)
+        ensures { self.new ≡ truncated len self.old }
+    {
+        self.ids.truncate(len);
     }
 
     // Appends a new identifier.

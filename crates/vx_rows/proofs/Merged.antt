@@ -186,11 +186,11 @@ kept_more name o xs ys = append_assoc (kept name o) xs ys
 
 listed_next : (g : List ℕ → Option Value) (ns : List (List ℕ)) (i : ℕ) (n : List ℕ) → i < length ns → n ≡ get_or ns i n → listed g (take (suc i) ns) ≡ listed g (take i ns) ++ kept n (g n)
 listed_next g [] i n h e = absurd (omega (arith, h))
-listed_next g (m ∷ ns) zero n h e = nothing_behind (kept m (g m)) ∙ ap (λ (k : List ℕ). kept k (g k)) (sym e)
+listed_next g (m ∷ ns) zero n h e = nothing_after (kept m (g m)) ∙ ap (λ (k : List ℕ). kept k (g k)) (sym e)
   where
-    nothing_behind : (xs : List Named) → xs ++ [] ≡ xs
-    nothing_behind [] = refl
-    nothing_behind (x ∷ xs) = ap (λ (ys : List Named). x ∷ ys) (nothing_behind xs)
+    nothing_after : (xs : List Named) → xs ++ [] ≡ xs
+    nothing_after [] = refl
+    nothing_after (x ∷ xs) = ap (λ (ys : List Named). x ∷ ys) (nothing_after xs)
 listed_next g (m ∷ ns) (suc i) n h e =
     ap (λ (xs : List Named). kept m (g m) ++ xs) (listed_next g ns i n (omega (arith, h)) e) ∙ sym (append_assoc (kept m (g m)) (listed g (take i ns)) (kept n (g n)))
 

@@ -22,7 +22,7 @@ use Rattle.vx_rows.specs.RowScalars.{hides}
 use Rattle.vx_rows.specs.declared.row.RowValue.{RowValue}
 use Rattle.vx_rows.specs.declared.row.RowValue.TheVariants as R
 use Rattle.vx_rows.proofs.Fieldwise.{seen_take}
-use Rattle.vx_rows.proofs.SameRows.{roses_of-injective}
+use Rattle.vx_trees.proofs.LawsOfMapped.{roses_of-injective}
 
 -- ---- element by element
 

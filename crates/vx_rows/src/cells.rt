@@ -30,7 +30,8 @@ fn spend_row(row: &RowValue, budget: &mut u64) -> Result<(), ArrayError>
     }
 }
 
-// A row of variants, once its cells are spent.
+/// A row of variants, once its cells are spent. They are spent after the row is made, as only a merge tells what it
+/// holds.
 pub fn spent_row(row: RowValue, budget: &mut u64) -> Result<RowValue, ArrayError>
     requires { IsVariantRow (plain_value row) }
     ensures row { IfOk result (λ kept. plain_value kept ≡ plain_value row) }

@@ -1,4 +1,5 @@
-//! Copies that fail by allocation failure alone, as an `ArrayError`.
+//! Copies that fail by allocation failure alone, as an `ArrayError`. Each is a call of its own, so that its clause names
+//! the one error, which a `?` at the caller would leave open.
 
 ghost use Rattle.std.specs.Prelude.{◌≡◌, IfOk, IsOkUnless};
 

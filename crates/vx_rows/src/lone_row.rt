@@ -13,7 +13,7 @@ use std::alloc::Global;
 use vx_scalars::DecimalValue;
 use vx_types::PValue;
 
-/// A row without nested rows. Texts and bytes are borrowed.
+/// A row without nested rows. Texts and bytes are borrowed, so that their cells are spent before they are copied.
 #[derive(Clone, Copy)]
 pub enum LoneRow<'a> {
     /// The row is null.
@@ -32,7 +32,8 @@ pub enum LoneRow<'a> {
     Binary(&'a [u8]),
 }
 
-/// Spends the cells of a value of n bytes: one, and one for each byte.
+/// Spends the cells of a value of n bytes: one, and one for each byte. A value without bytes has a cell too, so that a
+/// budget bounds the work also where rows hold nothing.
 pub fn spend(bytes: usize, budget: &mut u64) -> Result<(), ArrayError>
     ensures spent { OnOk result (budget.old ≡ suc bytes + budget.new) }
     ensures err { IfErr result (λ e. RefusesCells e (suc bytes) budget.old) }
@@ -75,7 +76,8 @@ fn owned(alloc: Global, row: LoneRow<'_>) -> Result<RowValue, ArrayError>
     }
 }
 
-/// The value of a row without nested rows, if the budget has cells for it.
+/// The value of a row without nested rows, if the budget has cells for it. They are spent before anything is
+/// allocated, so that a refused row costs nothing.
 pub fn lone_value(alloc: Global, row: LoneRow<'_>, budget: &mut u64) -> Result<RowValue, ArrayError>
     ensures row { IfOk result (λ value. plain_value value ≡ lone (lone_mark row.entry)) }
     ensures spent { OnOk result (budget.old ≡ value_cells (lone (lone_mark row.entry)) + budget.new) }

@@ -33,6 +33,7 @@ fn structure_of<'a>(dtype: &'a DType, value: &'a ScalarValue) -> Option<Structur
     ensures sound { IfSome result (λ s. IsStructured (raw_of s)) }
     ensures smaller { IfSome result (λ s. nodes_of (raw_of s).values < nodes (value_of value.now)) }
 {
+    // Asked for its clause, that the type is well formed.
     let _ = dtype.is_within(1);
     match (dtype, value) {
         (DType::Struct(fields, _), ScalarValue::Tuple(values)) => Some(Structure {

@@ -36,7 +36,7 @@ impl Model for RowRef {
 }
 
 impl RowRef {
-    /// Puts the value behind a pointer.
+    /// Puts the value in a box.
     pub fn new(alloc: Global, value: RowValue) -> Result<RowRef, ArrayError>
         ensures ok { IfOk result (λ part. part ≡ plain_value value) }
         ensures err { IsOkUnless result ArrayError.OutOfMemory }

@@ -51,7 +51,7 @@ fn have_opaque(rows: &[RowValue]) -> bool
     false
 }
 
-// A scalar holds nothing opaque.
+// Whether a scalar holds something opaque: never. The value is asked for its clause, from which this follows.
 #[tactic(auto, using(crate::proofs::Merged::plains))]
 fn is_never_opaque(scalar: &Scalar) -> bool
     ensures none { result ≡ false }
@@ -188,8 +188,8 @@ fn rows_of_values(alloc: Global, values: &[Option<ScalarValue>]) -> Result<RowVa
     Ok(rows)
 }
 
-// A typed row over a core's: the core's where it is null, opaque where it holds something opaque, and else the two
-// merged.
+/// A typed row over a core's: the core's where it is null, opaque where it holds something opaque, and else the two
+/// merged. Whether it is opaque is judged first, as a scalar cannot say so.
 pub fn row_over(
     alloc: Global,
     dtype: &DType,

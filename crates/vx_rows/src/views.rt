@@ -7,7 +7,8 @@ ghost use Rattle.vx_array_tree.specs.Encodings.VarBinViews.{found, long_view, vi
 use bytes::Buf;
 use vx_buffer::BufferHandle;
 
-// The bytes that a view gives, if it is right.
+/// The bytes that a view gives, if it is right. The length is read first, since it decides what the other 12 bytes are:
+/// the bytes themselves, or a prefix, a buffer's number and an offset.
 pub fn viewed<'a>(buffers: &'a [BufferHandle], view: &'a [u8]) -> Option<&'a [u8]>
     requires { length view.now ≡ 16 }
     ensures { option_map (λ b. b.now) result ≡ viewed buffers.now view.now }

@@ -29,10 +29,11 @@ use vx_scalars::{Scalar, ScalarValue, ValueRef, Values, VariantRef, bare_dtype};
 use vx_type_wire::{TypeWireError, pb};
 use vx_types::{DType, StructFields, UnionVariants, or_memory};
 
-// The limit of levels of a value in a message. Each level nests two messages.
+// The limit of levels of a value in a message. Each level nests two messages, of which a message has 100 at most.
 const MOST_LEVELS: u8 = 50;
 
-/// The value whose message has this plain value, at a type; `None` is a null.
+/// The value whose message has this plain value, at a type; `None` is a null. Only a variant's message has a type, which
+/// `types` reads: so the caller decides which extensions are known.
 pub fn read_value<F: Fn(&pb::DType) -> Result<DType, TypeWireError>>(
     alloc: Global,
     slots: &[Entries],

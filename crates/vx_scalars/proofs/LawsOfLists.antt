@@ -3,12 +3,13 @@ use Rattle.std.specs.Prelude.{ℕ, zero, suc, ◌+◌, ◌≤◌, ◌<◌, ◌�
 use Rattle.std.specs.Prelude.{Option, Some, None, position, cond, nat_lt, not, Bool, true, false, IsTrue, refl}
 use Rattle.std.specs.List.{position_or_len}
 use Rattle.std.specs.Cmp.{unsigned_Decides}
+use Rattle.std.proofs.lemmas.List.{length-map, map-append}
 use Rattle.std.proofs.lemmas.List.Quantifiers.{position-Some}
 use Rattle.std.proofs.Common.{arith, get_or, sym, ap, ◌∙◌, subst, add-one, true≢false}
 use Rattle.std.proofs.lemmas.Option.{same_Some}
 use Rattle.vx_trees.specs.Rose.{roses_of, node, end, more}
 use Rattle.vx_trees.proofs.Lists.{count-roses_of}
-use Rattle.vx_trees.proofs.Counting.{nodes-at}
+use Rattle.vx_trees.proofs.LawsOfMapped.{mapped-at, mapped-nodes}
 use Rattle.vx_types.specs.Fits.{Fits, EachFits, FitBy, FitsMember, member}
 use Rattle.vx_types.specs.Kind.{union as union_kind}
 use Rattle.vx_types.specs.Seen.{typ, typs}
@@ -22,27 +23,20 @@ use Rattle.vx_scalars.specs.Seen.{seen, all_seen}
 use Rattle.vx_scalars.specs.declared.value.ScalarValue.{ScalarValue}
 
 pub seen-length : (vs : List (Option ScalarValue)) → length (all_seen vs) ≡ length vs
-seen-length [] = refl
-seen-length (v ∷ vs) = ap (λ n. suc n) (seen-length vs)
+seen-length vs = length-map vs seen
 
 pub seen-at : (vs : List (Option ScalarValue)) (i : ℕ) (v : Option ScalarValue)
     → get_or (all_seen vs) i (seen v) ≡ seen (get_or vs i v)
-seen-at [] i v = refl
-seen-at (x ∷ vs) zero v = refl
-seen-at (x ∷ vs) (suc i) v = seen-at vs i v
+seen-at vs i v = mapped-at seen vs i v
 
 pub seen-push : (vs : List (Option ScalarValue)) (v : Option ScalarValue)
     → all_seen (vs ++ v ∷ []) ≡ all_seen vs ++ seen v ∷ []
-seen-push [] v = refl
-seen-push (x ∷ vs) v = ap (λ r. seen x ∷ r) (seen-push vs v)
+seen-push vs v = map-append seen vs (v ∷ [])
 
 -- An element is smaller than the list.
 pub size-at : (vs : List (Option ScalarValue)) (i : ℕ) (v : Option ScalarValue) → i < length vs
     → value_size (seen (get_or vs i v)) < slice_size (all_seen vs)
-size-at vs i v h =
-    let g : i < length (all_seen vs) = omega (arith, h, seen-length vs) in
-    let f : value_size (get_or (all_seen vs) i (seen v)) < slice_size (all_seen vs) = omega (arith, nodes-at (all_seen vs) i (seen v) g) in
-    subst (λ t. value_size t < slice_size (all_seen vs)) (seen-at vs i v) f
+size-at vs i v h = omega (arith, mapped-nodes seen vs i v h)
 
 -- ---- each fits one type
 

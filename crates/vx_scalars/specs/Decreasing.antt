@@ -4,7 +4,7 @@ use Rattle.std.proofs.Common.{arith, Global}
 use Rattle.vx_trees.specs.Rose.{roses_of}
 use Rattle.vx_trees.specs.Walks.{nodes_of}
 use denote.Param.Weighed.{most}
-use Rattle.vx_scalars.specs.Seen.{value_of, seen, all_seen, value_behind}
+use Rattle.vx_scalars.specs.Seen.{value_of, seen, all_seen, boxed_value}
 use Rattle.vx_scalars.specs.Measures.{value_size}
 use Rattle.vx_scalars.specs.declared.value.ScalarValue.{ScalarValue}
 use Rattle.vx_scalars.specs.declared.value.ScalarValue.TheVariants.{the_data, Bool, Primitive, Decimal, Utf8}
@@ -38,6 +38,6 @@ most_le-size [] = omega arith
 most_le-size (v ∷ vs) = omega (arith, most_le-size vs, item_le-size v)
 
 pub place_le-size : (v : Option (Box ScalarValue Global))
-    → (weighed-ValueRef-value).weight the_data deep-ScalarValue v ≤ value_size (value_behind v) + 1
+    → (weighed-ValueRef-value).weight the_data deep-ScalarValue v ≤ value_size (boxed_value v) + 1
 place_le-size None = omega arith
 place_le-size (Some b) = omega (arith, deep_le-size b.value)

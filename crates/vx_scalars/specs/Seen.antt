@@ -28,6 +28,6 @@ abbrev pub all_seen : List (Option ScalarValue) → List Value
 all_seen vs = each seen vs
 
 -- A boxed value; None is null.
-abbrev pub value_behind : {A : Type 0} → Option (Box ScalarValue A) → Value
-value_behind None = lone null
-value_behind (Some b) = value_of b.value
+abbrev pub boxed_value : {A : Type 0} → Option (Box ScalarValue A) → Value
+boxed_value None = lone null
+boxed_value (Some b) = value_of b.value

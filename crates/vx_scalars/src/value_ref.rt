@@ -24,9 +24,9 @@ impl Model for ValueRef {
 
     ghost coded = { value_code };
 
-    ghost use Rattle.vx_scalars.specs.Seen.{value_behind};
+    ghost use Rattle.vx_scalars.specs.Seen.{boxed_value};
 
-    ghost view = { λ a. value_behind a.value };
+    ghost view = { λ a. boxed_value a.value };
 
     ghost size = { ref_size };
 

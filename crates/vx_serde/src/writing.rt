@@ -68,7 +68,7 @@ fn blob_buffers(
         ++ (pad_buffers padding ++ (unaligned message.items ∷ unaligned (to_le_bytes w32 (length message.items)) ∷ [])))) }
 {
     let word = Vec::from_slice(alloc, &(message.len() as u32).to_le_bytes())?;
-    let mut out = ByteBuffers::with_room(alloc, buffers.len().saturating_add(PARTS_BESIDE));
+    let mut out = ByteBuffers::with_capacity(alloc, buffers.len().saturating_add(PARTS_BESIDE));
     out.push(ByteBuffer::empty().aligned(greatest_alignment(buffers)))?;
     push_data(alloc, options, buffers, &mut out)?;
     push_pad(alloc, padding, &mut out)?;

@@ -1,5 +1,6 @@
 pub mod Lists
 pub mod LawsOfLists
+pub mod LawsOfMapped
 pub mod LawsOfRoses
 pub mod LawsOfResults
 pub mod LawsOfBytes

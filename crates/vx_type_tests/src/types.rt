@@ -2,7 +2,7 @@
 
 use std::alloc::Global;
 use vx_types::{
-    Blob, DType, DTypes, DecimalDType, DecimalType, ExtDType, Id, MapDType, Name, Names,
+    Blob, DType, DTypes, DecimalDType, DecimalType, ExtDType, Id, Ids, MapDType, Name, Names,
     Nullability, PType, StructFields, TypeError, TypeIds, TypeRef, UnionVariants,
 };
 
@@ -327,4 +327,30 @@ fn texts_of_refusals(rt: HostRuntime) {
     for (error, text) in &TEXTS {
         assert!(rt; is_text(rt.alloc(), *error, text), "{text}");
     }
+}
+
+// The identifiers `a`, `b` and `a`, of which the first `len` are kept.
+fn first_ids(alloc: Global, len: usize) -> Result<Ids, TypeError> {
+    let mut ids = Ids::new(alloc);
+    for text in ["a", "b", "a"] {
+        ids.push(Id::new(alloc, text)?)?;
+    }
+    ids.truncate(len);
+    Ok(ids)
+}
+
+// Whether as many are kept, and the last of them is this one.
+fn ends_in(alloc: Global, len: usize, count: usize, last: Option<&str>) -> Result<bool, TypeError> {
+    let ids = first_ids(alloc, len)?;
+    let is_last = ids.as_slice().last().map(|id| id.as_str()) == last;
+    let kept = ids.len() == count;
+    drop(ids);
+    Ok(kept && is_last)
+}
+
+#[test]
+fn identifiers_are_truncated(rt: HostRuntime) {
+    assert!(rt; ends_in(rt.alloc(), 2, 2, Some("b")) == Ok(true));
+    assert!(rt; ends_in(rt.alloc(), 0, 0, None) == Ok(true));
+    assert!(rt; ends_in(rt.alloc(), 5, 3, Some("a")) == Ok(true));
 }

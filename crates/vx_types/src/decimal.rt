@@ -50,6 +50,7 @@ impl DecimalDType {
         ensures same { result ≡ self.now.precision }
         ensures decimal { IsDecimal self.now.precision self.now.scale }
     {
+        // Reads the other field too, so that the proof has the whole invariant.
         let _scale = self.scale;
         self.precision
     }

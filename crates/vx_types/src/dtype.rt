@@ -75,7 +75,8 @@ impl Drop for DType {
 }
 
 impl DType {
-    /// The fields and the nullability of a structure; `None` for any other type.
+    /// The fields and the nullability of a structure; `None` for any other type. It takes
+    /// the type by value, so that a large list of fields is moved and not copied.
     pub fn into_struct(self) -> Option<(StructFields, Nullability)>
         ensures some { IfSome result (λ parts. self ≡ DType.Struct parts.0 parts.1) }
         ensures none { IfNone result (IsStruct self → ⊥) }
@@ -109,7 +110,7 @@ impl DType {
     }
 
     /// The same type with this nullability. `Null` stays as it is; for an extension
-    /// the nullability of its storage changes.
+    /// the nullability of its storage changes, as it has none of its own.
     #[cycle(nullable)]
     pub fn with_nullability(
         &self,
@@ -166,7 +167,8 @@ impl DType {
     }
 
     /// Whether the type has at most `limit` levels: a type without types within it
-    /// has one level, and any other has one more than the deepest type within it.
+    /// has one level, and any other has one more than the deepest type within it. It takes
+    /// no recursion, so it also answers for a type that is too deep to go into.
     pub fn is_within(&self, limit: u32) -> bool
         ensures within { IsTrue result ↔ (levels (typ self.now) ≤ limit) }
         ensures is_type { IsType (typ self.now) }
@@ -188,11 +190,13 @@ impl DType {
             | DType::Binary(_)
             | DType::Variant(_) => 1,
             DType::Decimal(digits, _) => {
+                // Reads a field, so that the proof has the invariant of the digits.
                 let _scale = digits.scale;
                 1
             }
             DType::List(part, _) => part.levels().saturating_add(1),
             DType::FixedSizeList(part, size, _) => {
+                // Reads the number, so that the proof has its range.
                 let _size = *size;
                 part.levels().saturating_add(1)
             }

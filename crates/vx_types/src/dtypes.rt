@@ -66,12 +66,12 @@ impl DTypes {
         }
     }
 
-    /// An empty list with room for `room` types; without that room if the allocation
-    /// fails.
-    pub fn with_room(alloc: Global, room: usize) -> DTypes
+    /// An empty list with memory for `capacity` types, or with none where the allocation
+    /// fails. That is no refusal, since `push` allocates what is missing.
+    pub fn with_capacity(alloc: Global, capacity: usize) -> DTypes
         ensures { result ≡ [] }
     {
-        match none(alloc, room) {
+        match none(alloc, capacity) {
             Ok(types) => DTypes {
                 held: HeldTypes::Types(types),
                 alloc,
@@ -161,12 +161,12 @@ impl DTypes {
     }
 }
 
-// A boxed list without types, with room for `room` of them.
-fn none(alloc: Global, room: usize) -> Result<Box<TypeList>, TypeError>
+// A boxed list without types, with memory for `capacity` of them.
+fn none(alloc: Global, capacity: usize) -> Result<Box<TypeList>, TypeError>
     ensures ok { IfOk result (λ b. b.value ≡ []) }
     ensures err { IsOkUnless result TypeError.OutOfMemory }
 {
-    let types = TypeList::with_room(alloc, room)?;
+    let types = TypeList::with_capacity(alloc, capacity)?;
     Ok(Box::new(alloc, types)?)
 }
 
@@ -175,7 +175,7 @@ fn first(alloc: Global, dtype: DType) -> Result<Box<TypeList>, TypeError>
     ensures ok { IfOk result (λ b. b.value ≡ typ dtype ∷ []) }
     ensures err { IsOkUnless result TypeError.OutOfMemory }
 {
-    let mut types = TypeList::with_room(alloc, 1)?;
+    let mut types = TypeList::with_capacity(alloc, 1)?;
     types.push(dtype)?;
     Ok(Box::new(alloc, types)?)
 }

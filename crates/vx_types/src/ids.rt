@@ -1,7 +1,7 @@
 //! Lists of identifiers.
 
 ghost use Rattle.std.specs.Prelude.{◌≡◌, ◌==◌, [], ◌∷◌, ◌++◌, OnOk, OnErr, IsOkUnless};
-ghost use Rattle.std.specs.Prelude.{length, slice_get, option_copied};
+ghost use Rattle.std.specs.Prelude.{length, slice_get, option_copied, take};
 
 use crate::error::TypeError;
 use crate::id::Id;
@@ -70,5 +70,12 @@ impl Ids {
     {
         self.items.push(id)?;
         Ok(())
+    }
+    /// Keeps the first `len` identifiers and drops the others. A list of no more than `len` stays as it is. It takes no
+    /// memory.
+    pub fn truncate(&mut self, len: usize)
+        ensures { self.new ≡ take len self.old }
+    {
+        self.items.truncate(len);
     }
 }

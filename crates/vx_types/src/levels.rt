@@ -1,4 +1,6 @@
 //! Depths of types.
+//!
+//! They are capped at the largest `u64`, so that counting them cannot overflow; limits are far below.
 
 ghost use Rattle.std.specs.Prelude.{◌≡◌, max};
 

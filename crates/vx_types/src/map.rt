@@ -100,7 +100,7 @@ impl MapDType {
     }
 
     /// The type of an entry: a structure of the fields `key` and `value`, not
-    /// nullable.
+    /// nullable: the validity of a map is that of its rows alone.
     pub fn entries_dtype(&self, alloc: Global) -> Result<DType, TypeError>
         ensures ok { IfOk result (λ d. typ d ≡ entries self.now) }
         ensures err { IsOkUnless result TypeError.OutOfMemory }

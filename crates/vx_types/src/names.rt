@@ -51,12 +51,12 @@ impl Names {
         }
     }
 
-    /// An empty list with room for `room` names; without that room if the allocation
-    /// fails.
-    pub fn with_room(alloc: Global, room: usize) -> Names
+    /// An empty list with memory for `capacity` names, or with none where the allocation
+    /// fails. That is no refusal, since `push` allocates what is missing.
+    pub fn with_capacity(alloc: Global, capacity: usize) -> Names
         ensures { result ≡ [] }
     {
-        match none(alloc, room) {
+        match none(alloc, capacity) {
             Ok(names) => Names {
                 held: HeldNames::Names(names),
                 alloc,
@@ -148,12 +148,12 @@ fn push_name(held: &mut HeldNames, alloc: Global, name: Name) -> Result<(), Type
     }
 }
 
-// A boxed list without names, with room for `room` of them.
-fn none(alloc: Global, room: usize) -> Result<Box<Vec<Name>>, TypeError>
+// A boxed list without names, with memory for `capacity` of them.
+fn none(alloc: Global, capacity: usize) -> Result<Box<Vec<Name>>, TypeError>
     ensures ok { IfOk result (λ b. b.value.items ≡ []) }
     ensures err { IsOkUnless result TypeError.OutOfMemory }
 {
-    let names = Vec::with_capacity(alloc, room)?;
+    let names = Vec::with_capacity(alloc, capacity)?;
     Ok(Box::new(alloc, names)?)
 }
 

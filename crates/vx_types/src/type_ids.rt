@@ -8,7 +8,7 @@ use std::alloc::Global;
 use std::marker::Model;
 
 /// The tags of a union's members, in the members' order. Contracts see their
-/// list.
+/// list. It is boxed to keep a type small.
 #[derive(Debug, Drop)]
 pub struct TypeIds {
     ids: Box<Vec<u8>>,

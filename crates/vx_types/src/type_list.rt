@@ -14,6 +14,9 @@ use std::marker::Model;
 
 /// Types in order, and the number of levels of the deepest, capped at the largest
 /// `u64`. Contracts see the list of their trees.
+///
+/// The levels are kept, so that whoever asks for them goes into no type again: a type
+/// may be deeper than the stack.
 #[cycle(dtype)]
 #[derive(Debug, Drop)]
 pub(crate) struct TypeList {
@@ -49,12 +52,12 @@ impl Model for TypeList {
 }
 
 impl TypeList {
-    /// An empty list with room for `room` types.
-    pub(crate) fn with_room(alloc: Global, room: usize) -> Result<TypeList, TypeError>
+    /// An empty list with memory for `capacity` types.
+    pub(crate) fn with_capacity(alloc: Global, capacity: usize) -> Result<TypeList, TypeError>
         ensures ok { IfOk result (λ types. types ≡ []) }
         ensures err { IsOkUnless result TypeError.OutOfMemory }
     {
-        let items = Vec::with_capacity(alloc, room)?;
+        let items = Vec::with_capacity(alloc, capacity)?;
         Ok(TypeList { items, depth: 0 })
     }
 
@@ -79,13 +82,15 @@ impl TypeList {
         ensures unchanged { OnErr result (self.new ≡ self.old) }
         ensures err { IsOkUnless result TypeError.OutOfMemory }
     {
+        // Asked before the type is moved, and stored only once it is in the list.
         let depth = deeper(self.depth, dtype.levels());
         self.items.push(dtype)?;
         self.depth = depth;
         Ok(())
     }
 
-    /// The same list, of copies of its types.
+    /// The same list, of copies of its types. It takes over the levels, which copies share
+    /// with their originals.
     pub(crate) fn of_copies(&self, items: Vec<DType>) -> TypeList
         requires { typs items.items ≡ self.now }
         ensures { result ≡ self.now }

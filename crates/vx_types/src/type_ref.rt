@@ -13,6 +13,8 @@ use std::ops::Deref;
 
 /// A type within another, as of a list's elements, boxed, and its number of levels,
 /// capped at the largest `u64`. Contracts see its tree.
+///
+/// The levels are kept, so that whoever asks for them does not go into the type again.
 #[cycle(dtype)]
 #[derive(Debug, Drop)]
 pub struct TypeRef {

@@ -46,7 +46,8 @@ impl Model for UnionVariants {
 impl UnionVariants {
     /// Members of these names, types and tags. `FieldCount` only where the lists
     /// differ in length, `DuplicateTag` only where two tags are equal, and one of
-    /// the two wherever either holds.
+    /// the two wherever either holds. Tags are distinct so that a row's tag names one
+    /// member.
     pub fn try_new(names: Names, types: DTypes, ids: TypeIds) -> Result<UnionVariants, TypeError>
         ensures ok { IfOk result (λ members. members ≡ record { names = names; types = types; ids = ids }) }
         ensures types_fit { IfOk result (λ _. length names ≡ length types) }
@@ -117,7 +118,8 @@ impl UnionVariants {
     }
 }
 
-// Whether two tags are equal.
+// Whether two tags are equal. No table of tags is needed: there are 256 at most, so among 257 two are equal, and the
+// outer loop ends there.
 fn has_duplicate(ids: &[u8]) -> bool
     ensures { MatchBool result (AreDistinct ids.now → ⊥) (AreDistinct ids.now) }
 {

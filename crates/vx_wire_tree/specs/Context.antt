@@ -1,5 +1,5 @@
 -- The numbered identifiers of a write, and how they grow.
-use Rattle.std.specs.Prelude.{ℕ, suc, List, [], ◌∷◌, ◌++◌, Option, Some, None, Bool, true, ◌&&◌, bytes_eq, nat_lt, if◌then◌else◌}
+use Rattle.std.specs.Prelude.{ℕ, suc, List, [], ◌∷◌, ◌++◌, Option, Some, None, Bool, true, ◌&&◌, bytes_eq, nat_lt, if◌then◌else◌, take}
 use Rattle.std.specs.List.{list_any}
 use Rattle.vx_array_tree.specs.Tree.{Tree}
 use Rattle.vx_wire_tree.specs.Codec.{Codec}
@@ -43,6 +43,10 @@ interned id ctx =
     if is_allowed ctx.allowed id && nat_lt (index_of id ctx.ids) 65536
     then Some (record { ids = with_id id ctx.ids; allowed = ctx.allowed })
     else None
+
+-- The context with its first identifiers alone, this many of them.
+abbrev pub truncated : ℕ → Context → Context
+truncated n ctx = record { ids = take n ctx.ids; allowed = ctx.allowed }
 
 -- The context that a step makes of another, where there is one.
 abbrev pub stepped : Option Context → (Context → Option Context) → Option Context

@@ -4,7 +4,7 @@ use Rattle.vx_trees.specs.Rose.{node, count}
 use Rattle.vx_types.specs.Kind.{structure}
 use Rattle.vx_types.specs.Typ.{Typ}
 use Rattle.vx_types.specs.Value.{tuple}
-use Rattle.vx_array_tree.specs.Place.{Place, AllowsValidity, behind_validity, places_at}
+use Rattle.vx_array_tree.specs.Place.{Place, AllowsValidity, after_validity, places_at}
 use Rattle.vx_array_tree.specs.Rows.{Rows, by_validity_with, validity, rest, values_at, cells_at}
 
 -- The identifier is "vortex.struct".
@@ -13,7 +13,7 @@ id = codes "vortex.struct"
 
 -- A node is of a struct type, and has a child for each field, of its type and as many rows, after at most a validity.
 abbrev pub plan : Typ → ℕ → ℕ → Option (List Place)
-plan (node (structure ns m) ts) n k = behind_validity (places_at ts n) n k
+plan (node (structure ns m) ts) n k = after_validity (places_at ts n) n k
 plan _ n k = None
 
 -- How many fields a type has.

@@ -10,7 +10,7 @@ use Rattle.vx_array_tree.specs.Sound.{IsSoundNode}
 use Rattle.vx_array_tree.specs.Tree.{Tree, option_trees, untold}
 use Rattle.vx_arrays.specs.NewBuffers.{with_buffers}
 use Rattle.vx_arrays.specs.VarBins.{varbin_tree}
-use Rattle.vx_arrays.proofs.Parted.{first_and_behind, sound_counted}
+use Rattle.vx_arrays.proofs.Split.{first_and_after, sound_counted}
 use Rattle.vx_arrays.specs.Compared.{compared_body}
 use Rattle.vx_arrays.proofs.Comparing.{bare-same}
 
@@ -36,7 +36,7 @@ pub parts_made : (d c : Typ) (n : ℕ) (x : VarBins.Data) (ts : List Tree) (item
     → 1 ≤ length ts → item ≡ get_or ts 0 item → o ≡ item → c ≡ d → option_trees v ≡ roses_of (take (length ts - 1) (drop 1 ts)) → bs ≡ b ∷ []
     → with_buffers (node (untold d n (B.varbin x)) (roses_of ts)) bs ≡ Some (varbin_tree c o b v)
 parts_made d c n x ts item o bs b v s l is q p w e =
-    let first : roses_of ts ≡ more item (roses_of (take (length ts - 1) (drop 1 ts))) = first_and_behind ts item l is in
+    let first : roses_of ts ≡ more item (roses_of (take (length ts - 1) (drop 1 ts))) = first_and_after ts item l is in
     let counted : (label o).len ≡ suc n = ap (λ (z : Tree). (label z).len) q ∙ sound_counted d n x (roses_of ts) item (roses_of (take (length ts - 1) (drop 1 ts))) first s in
     let len : n ≡ (label o).len - 1 = omega (arith, counted) in
     let children : roses_of ts ≡ more o (option_trees v) = first ∙ (λ i. more (sym q i) (sym w i)) in

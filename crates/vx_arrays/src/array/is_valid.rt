@@ -67,8 +67,8 @@ impl Array {
                 }
             }
             Body::Variant => {
-                let (core, behind) = core_in(&self.dtype, self.len, self.children.as_slice());
-                match behind {
+                let (core, after) = core_in(&self.dtype, self.len, self.children.as_slice());
+                match after {
                     [] => core.is_valid(index),
                     [shredded, ..] => match shredded.is_valid(index) {
                         Some(false) => core.is_valid(index),

@@ -18,7 +18,7 @@ ghost use Rattle.vx_arrays.specs.Refused.{RefusesMaking, IsOkOrMemory};
 
 use crate::array::Array;
 use crate::body::Body;
-use crate::new_buffers::{copied_validity, only_buffer};
+use crate::new_buffers::copied_validity;
 use crate::validity::{is_validity, over_validity, validity_at};
 use std::alloc::Global;
 use std::marker::Model;
@@ -137,7 +137,7 @@ impl BoolData {
         ensures complete { let t : Tree = node (untold (typ dtype.now) len (B.bool self.now)) (roses_of children.now) in
             (u : Tree) → with_buffers t buffers ≡ Some u → IsSound u → IsOkOrMemory result }
     {
-        let Some(bits) = only_buffer(buffers) else {
+        let Some(bits) = buffers.only_buffer() else {
             return Err(ArrayError::BadShape);
         };
         match dtype {

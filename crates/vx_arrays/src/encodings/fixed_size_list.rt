@@ -20,7 +20,7 @@ use crate::array::Array;
 use crate::body::Body;
 use crate::construction::over_children;
 use crate::parts::{RowParts, where_there};
-use crate::validity::{is_validity, parted, validity_at, with_validity};
+use crate::validity::{is_validity, split_first, validity_at, with_validity};
 use std::alloc::Global;
 use vx_rows::ArrayError;
 use vx_types::{DType, Nullability, TypeRef, or_memory};
@@ -44,8 +44,8 @@ impl FixedSizeListArray {
         ensures { result ≡ validity (rest (rows_below (roses_of children.now))) index }
     {
         let _dtype = dtype;
-        let (_, behind) = parted(children);
-        validity_at(behind, len, index)
+        let (_, after) = split_first(children);
+        validity_at(after, len, index)
     }
 
     // The parts of a row of a node of this type, length and children.
@@ -66,8 +66,8 @@ impl FixedSizeListArray {
         ensures smaller { parts_nodes result ≤ nodes_of (roses_of children.now) }
     {
         let size = size_of(dtype);
-        let (elements, behind) = parted(children);
-        let valid = validity_at(behind, len, index);
+        let (elements, after) = split_first(children);
+        let valid = validity_at(after, len, index);
         where_there(
             valid,
             RowParts::Run {

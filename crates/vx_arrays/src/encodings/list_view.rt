@@ -25,7 +25,7 @@ use crate::encodings::lists::{element_type, list_type};
 use crate::list::Arrays;
 use crate::offsets::{index_at, is_of_offsets};
 use crate::parts::{RowParts, where_there};
-use crate::validity::{listed_by_three, parted, stands_behind, validity_at};
+use crate::validity::{is_validity_after, listed_by_three, split_first, validity_at};
 use std::alloc::Global;
 use std::marker::Model;
 use vx_rows::ArrayError;
@@ -86,10 +86,10 @@ impl ListViewData {
         ensures { result ≡ validity (rest (rest (rest (rows_below (roses_of children.now))))) index }
     {
         let _dtype = dtype;
-        let (_, others) = parted(children);
-        let (_, last) = parted(others);
-        let (_, behind) = parted(last);
-        validity_at(behind, len, index)
+        let (_, others) = split_first(children);
+        let (_, last) = split_first(others);
+        let (_, after) = split_first(last);
+        validity_at(after, len, index)
     }
 
     // The parts of a row of a node of this type, length and children.
@@ -111,9 +111,9 @@ impl ListViewData {
         ensures smaller { parts_nodes result ≤ nodes_of (roses_of children.now) }
     {
         let valid = self.valid_at(dtype, len, children, index);
-        let (array, others) = parted(children);
-        let (offsets, last) = parted(others);
-        let (sizes, _) = parted(last);
+        let (array, others) = split_first(children);
+        let (offsets, last) = split_first(others);
+        let (sizes, _) = split_first(last);
         let (start, count) = view_at(valid, array, offsets, sizes, index);
         where_there(
             valid,
@@ -199,10 +199,10 @@ fn is_shaped(zero_copy: bool, dtype: &DType, len: usize, children: &[Array]) -> 
     if children.len() < 3 {
         return false;
     }
-    let (elements, others) = parted(children);
-    let (offsets, last) = parted(others);
-    let (sizes, behind) = parted(last);
-    are_parts(dtype, len, elements, offsets, sizes, behind)
+    let (elements, others) = split_first(children);
+    let (offsets, last) = split_first(others);
+    let (sizes, after) = split_first(last);
+    are_parts(dtype, len, elements, offsets, sizes, after)
 }
 
 // The same of the elements, the offsets, the sizes and what stands after them.
@@ -212,13 +212,13 @@ fn are_parts(
     elements: &Array,
     offsets: &Array,
     sizes: &Array,
-    behind: &[Array],
+    after: &[Array],
 ) -> bool
-    ensures { IsTrue result ↔ AreViewParts (typ dtype.now) len elements.now offsets.now sizes.now (roses_of behind.now) }
+    ensures { IsTrue result ↔ AreViewParts (typ dtype.now) len elements.now offsets.now sizes.now (roses_of after.now) }
 {
     let element = is_element(dtype, elements);
     let counted = are_counts(offsets, len) && are_counts(sizes, len);
-    element && counted && stands_behind(dtype.nullability(), behind, len)
+    element && counted && is_validity_after(dtype.nullability(), after, len)
 }
 
 // Whether an array is of the type of the elements that a type of lists has.
@@ -246,22 +246,22 @@ fn has_content(zero_copy: bool, dtype: &DType, len: usize, children: &[Array]) -
 {
     let _dtype = dtype;
     let _zero_copy = zero_copy;
-    let (elements, others) = parted(children);
-    let (offsets, last) = parted(others);
-    let (sizes, behind) = parted(last);
-    are_views(elements, offsets, sizes, behind, len)
+    let (elements, others) = split_first(children);
+    let (offsets, last) = split_first(others);
+    let (sizes, after) = split_first(last);
+    are_views(elements, offsets, sizes, after, len)
 }
 
 // Whether each of n rows, where it is valid, has its elements.
 #[tactic(auto, using(crate::proofs::ListViewed::loops))]
-fn are_views(elements: &Array, offsets: &Array, sizes: &Array, behind: &[Array], len: usize) -> bool
+fn are_views(elements: &Array, offsets: &Array, sizes: &Array, after: &[Array], len: usize) -> bool
     requires offsets { (label offsets.now).len ≡ len }
     requires sizes { (label sizes.now).len ≡ len }
-    requires planned { before_validity [] len (count (roses_of behind.now)) ≡ Some (places (roses_of behind.now)) }
-    ensures { IsTrue result ↔ ((i : ℕ) → i < len → IsThere (validity (rows_below (roses_of behind.now))) i → IsView (rows_of elements.now) (rows_of offsets.now) (rows_of sizes.now) i) }
+    requires planned { before_validity [] len (count (roses_of after.now)) ≡ Some (places (roses_of after.now)) }
+    ensures { IsTrue result ↔ ((i : ℕ) → i < len → IsThere (validity (rows_below (roses_of after.now))) i → IsView (rows_of elements.now) (rows_of offsets.now) (rows_of sizes.now) i) }
 {
     for i in 0..len {
-        let valid = validity_at(behind, len, i);
+        let valid = validity_at(after, len, i);
         if !is_right(valid, elements, offsets, sizes, i) {
             return false;
         }

@@ -23,7 +23,7 @@ use crate::list::Arrays;
 use crate::offsets::{are_counted, are_offsets, offset_at};
 use crate::parts::{RowParts, where_there};
 use crate::place::is_of_type;
-use crate::validity::{listed, parted, stands_behind, validity_at};
+use crate::validity::{is_validity_after, listed, split_first, validity_at};
 use std::alloc::Global;
 use vx_rows::ArrayError;
 use vx_types::{DType, Nullability, TypeRef, or_memory};
@@ -48,9 +48,9 @@ impl ListArray {
         ensures { result ≡ validity (rest (rest (rows_below (roses_of children.now)))) index }
     {
         let _dtype = dtype;
-        let (_, others) = parted(children);
-        let (_, behind) = parted(others);
-        validity_at(behind, len, index)
+        let (_, others) = split_first(children);
+        let (_, after) = split_first(others);
+        validity_at(after, len, index)
     }
 
     // The parts of a row of a node of this type, length and children.
@@ -71,8 +71,8 @@ impl ListArray {
         ensures smaller { parts_nodes result ≤ nodes_of (roses_of children.now) }
     {
         let valid = ListArray::valid_at(dtype, len, children, index);
-        let (array, others) = parted(children);
-        let (offsets, _) = parted(others);
+        let (array, others) = split_first(children);
+        let (offsets, _) = split_first(others);
         let total = array.len();
         let start = offset_at(offsets, len, total, index);
         let count = offset_at(offsets, len, total, index + 1) - start;
@@ -149,14 +149,14 @@ fn is_shaped(dtype: &DType, len: usize, children: &[Array]) -> bool
     if children.len() < 2 {
         return false;
     }
-    let (elements, others) = parted(children);
-    let (offsets, behind) = parted(others);
-    are_parts(dtype, len, elements, offsets, behind)
+    let (elements, others) = split_first(children);
+    let (offsets, after) = split_first(others);
+    are_parts(dtype, len, elements, offsets, after)
 }
 
 // The same of the elements, the offsets and what stands after them.
-fn are_parts(dtype: &DType, len: usize, elements: &Array, offsets: &Array, behind: &[Array]) -> bool
-    ensures { IsTrue result ↔ IsWellShaped (untold (typ dtype.now) len B.list) (more elements.now (more offsets.now (roses_of behind.now))) }
+fn are_parts(dtype: &DType, len: usize, elements: &Array, offsets: &Array, after: &[Array]) -> bool
+    ensures { IsTrue result ↔ IsWellShaped (untold (typ dtype.now) len B.list) (more elements.now (more offsets.now (roses_of after.now))) }
 {
     let Some(kind) = element_type(dtype) else {
         return false;
@@ -167,7 +167,7 @@ fn are_parts(dtype: &DType, len: usize, elements: &Array, offsets: &Array, behin
     if !are_counted(offsets, len) {
         return false;
     }
-    stands_behind(dtype.nullability(), behind, len)
+    is_validity_after(dtype.nullability(), after, len)
 }
 
 // Whether the content of such children is right: the offsets are.
@@ -177,8 +177,8 @@ fn has_content(dtype: &DType, len: usize, children: &[Array]) -> bool
     ensures { IsTrue result ↔ Content len (rows_below (roses_of children.now)) }
 {
     let _dtype = dtype;
-    let (elements, others) = parted(children);
-    let (offsets, _) = parted(others);
+    let (elements, others) = split_first(children);
+    let (offsets, _) = split_first(others);
     are_offsets(offsets, len, elements.len())
 }
 

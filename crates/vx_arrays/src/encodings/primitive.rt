@@ -18,7 +18,7 @@ ghost use Rattle.vx_arrays.specs.Refused.{RefusesMaking, IsOkOrMemory};
 
 use crate::array::Array;
 use crate::body::Body;
-use crate::new_buffers::{copied_validity, only_buffer};
+use crate::new_buffers::copied_validity;
 use crate::validity::{is_validity, over_validity, validity_at};
 use std::alloc::Global;
 use std::marker::Model;
@@ -144,7 +144,7 @@ impl PrimitiveData {
         ensures complete { let t : Tree = node (untold (typ dtype.now) len (B.primitive self.now)) (roses_of children.now) in
             (u : Tree) → with_buffers t buffers ≡ Some u → IsSound u → IsOkOrMemory result }
     {
-        let Some(values) = only_buffer(buffers) else {
+        let Some(values) = buffers.only_buffer() else {
             return Err(ArrayError::BadShape);
         };
         match dtype {

@@ -14,7 +14,7 @@ ghost use Rattle.vx_array_tree.specs.Sound.{IsSound, IsSoundNode};
 ghost use Rattle.vx_array_tree.specs.Tree.{array_place, places, rows_below, untold};
 ghost use Rattle.vx_arrays.specs.Parts.{AreThere, parts_cells, parts_nodes, parts_value};
 ghost use Rattle.vx_arrays.specs.Refused.{RefusesMaking, IsOkOrMemory};
-ghost use Rattle.vx_arrays.specs.Structs.{AreStructParts, IsOfFields, behind_validity, field_trees, struct_head, struct_tree};
+ghost use Rattle.vx_arrays.specs.Structs.{AreStructParts, IsOfFields, after_validity, field_trees, struct_head, struct_tree};
 
 use crate::array::Array;
 use crate::body::Body;
@@ -106,7 +106,7 @@ impl StructArray {
         if !are_struct_parts(&fields, nullability, &columns, &validity) {
             return Err(ArrayError::BadShape);
         }
-        match behind_validity(validity, columns) {
+        match after_validity(validity, columns) {
             Ok(children) => over_columns(fields, nullability, len, children),
             Err(error) => Err(error),
         }
@@ -244,8 +244,8 @@ pub(crate) fn are_columns(types: &[DType], columns: &[Array], len: usize) -> boo
 }
 
 // The children of a struct node: a validity, if any, and then the columns.
-fn behind_validity(validity: Option<Array>, columns: Arrays) -> Result<Vec<Array>, ArrayError>
-    ensures children { IfOk result (λ children. roses_of children.items ≡ behind_validity validity columns) }
+fn after_validity(validity: Option<Array>, columns: Arrays) -> Result<Vec<Array>, ArrayError>
+    ensures children { IfOk result (λ children. roses_of children.items ≡ after_validity validity columns) }
     ensures sound { IfOk result (λ children. EverywhereBelow IsSoundNode (roses_of children.items)) }
     ensures err { IsOkUnless result ArrayError.OutOfMemory }
 {

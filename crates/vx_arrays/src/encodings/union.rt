@@ -27,7 +27,7 @@ use crate::encodings::structs::are_columns;
 use crate::list::Arrays;
 use crate::parts::RowParts;
 use crate::place::stands_at;
-use crate::validity::parted;
+use crate::validity::split_first;
 use std::alloc::Global;
 use vx_rows::{ArrayError, LoneRow};
 use vx_types::{DType, Nullability, PType, UnionVariants};
@@ -82,7 +82,7 @@ impl UnionArray {
     {
         let len = type_ids.len();
         let dtype = DType::Union(variants, type_ids.dtype().nullability());
-        match behind_tags(type_ids, children) {
+        match after_tags(type_ids, children) {
             Ok(children) => over_tags(dtype, len, children),
             Err(error) => Err(error),
         }
@@ -117,7 +117,7 @@ fn over_tags(dtype: DType, len: usize, children: Vec<Array>) -> Result<Array, Ar
 }
 
 // The children of a union node: the tags, and then the members.
-fn behind_tags(type_ids: Array, members: Arrays) -> Result<Vec<Array>, ArrayError>
+fn after_tags(type_ids: Array, members: Arrays) -> Result<Vec<Array>, ArrayError>
     ensures children { IfOk result (λ children. roses_of children.items ≡ more type_ids members) }
     ensures sound { IfOk result (λ children. EverywhereBelow IsSoundNode (roses_of children.items)) }
     ensures err { IsOkUnless result ArrayError.OutOfMemory }
@@ -139,7 +139,7 @@ pub(crate) fn tags_in<'a>(dtype: &DType, len: usize, children: &'a [Array]) -> &
 {
     let _len = len;
     let _dtype = dtype;
-    let (tags, _) = parted(children);
+    let (tags, _) = split_first(children);
     tags
 }
 
@@ -157,7 +157,7 @@ fn tagged_at<'a>(dtype: &DType, len: usize, children: &'a [Array], index: usize)
     ensures smaller { parts_nodes result ≤ nodes_of (roses_of children.now) }
 {
     let _len = len;
-    let (tags, members) = parted(children);
+    let (tags, members) = split_first(children);
     match tags.natural_at(index) {
         None => unreachable!(),
         Some(number) => match named(ids_of(dtype), members, number) {
@@ -232,7 +232,7 @@ fn has_content(dtype: &DType, len: usize, children: &[Array]) -> bool
     requires { IsWellShaped (untold (typ dtype.now) len B.union) (roses_of children.now) }
     ensures { IsTrue result ↔ Content (typ dtype.now) len (rows_below (roses_of children.now)) }
 {
-    let (tags, members) = parted(children);
+    let (tags, members) = split_first(children);
     let ids = ids_of(dtype);
     for i in 0..len {
         if !is_tagged(ids, tags, members, i) {

@@ -21,7 +21,7 @@ ghost use Rattle.vx_arrays.specs.VarBins.{varbin_head, varbin_tree};
 use crate::array::Array;
 use crate::body::Body;
 use crate::construction::over_children;
-use crate::new_buffers::{copied_validity, only_buffer};
+use crate::new_buffers::copied_validity;
 use crate::offsets::{are_offsets, is_of_offsets};
 use crate::texts::{are_texts, is_of_bytes, lone_part, part_at};
 use crate::validity::{is_validity, validity_at, with_validity};
@@ -88,7 +88,7 @@ impl VarBinData {
         let _bytes = &self.bytes;
         let _dtype = dtype;
         match children {
-            [_, behind @ ..] => validity_at(behind, len, index),
+            [_, after @ ..] => validity_at(after, len, index),
             [] => unreachable!(),
         }
     }
@@ -107,7 +107,7 @@ impl VarBinData {
             lone (lone_mark result) ≡ rows.row index }
     {
         match children {
-            [offsets, behind @ ..] => match validity_at(behind, len, index) {
+            [offsets, after @ ..] => match validity_at(after, len, index) {
                 None => LoneRow::Opaque,
                 Some(false) => LoneRow::Null,
                 Some(true) => {
@@ -138,14 +138,14 @@ impl VarBinData {
         ensures complete { let t : Tree = node (untold (typ dtype.now) len (B.varbin self.now)) (roses_of children.now) in
             (u : Tree) → with_buffers t buffers ≡ Some u → IsSound u → IsOkOrMemory result }
     {
-        let Some(bytes) = only_buffer(buffers) else {
+        let Some(bytes) = buffers.only_buffer() else {
             return Err(ArrayError::BadShape);
         };
         match children {
-            [offsets, behind @ ..] => {
+            [offsets, after @ ..] => {
                 let dtype = copied_type(alloc, dtype)?;
                 let offsets = offsets.clone(alloc)?;
-                let validity = copied_validity(alloc, behind, len)?;
+                let validity = copied_validity(alloc, after, len)?;
                 VarBinArray::try_new(alloc, dtype, offsets, bytes, validity)
             }
             [] => unreachable!(),

@@ -22,7 +22,7 @@ use crate::construction::over_children;
 use crate::list::Arrays;
 use crate::parts::RowParts;
 use crate::place::stands_at;
-use crate::validity::parted;
+use crate::validity::split_first;
 use std::alloc::Global;
 use vx_rows::{ArrayError, copied_type};
 use vx_types::DType;
@@ -51,8 +51,8 @@ impl VariantArray {
         ensures there { AreThere result }
         ensures smaller { parts_nodes result ≤ nodes_of (roses_of children.now) }
     {
-        let (core, behind) = core_in(dtype, len, children);
-        match behind {
+        let (core, after) = core_in(dtype, len, children);
+        match after {
             [] => RowParts::At { array: core, index },
             [shredded, ..] => RowParts::Merged {
                 core,
@@ -118,13 +118,13 @@ pub(crate) fn core_in<'a>(
     children: &'a [Array],
 ) -> (&'a Array, &'a [Array])
     requires { IsSoundNode (untold (typ dtype.now) len B.variant) (roses_of children.now) }
-    ensures parted { more result.0.now (roses_of result.1.now) ≡ roses_of children.now }
+    ensures split_first { more result.0.now (roses_of result.1.now) ≡ roses_of children.now }
     ensures core { (IsVariant (label result.0.now).dtype) × ((label result.0.now).len ≡ len) }
-    ensures behind { AreRows len (roses_of result.1.now) }
+    ensures after { AreRows len (roses_of result.1.now) }
 {
     let _dtype = dtype;
     let _len = len;
-    parted(children)
+    split_first(children)
 }
 
 // Whether arrays are the children of a variant node: a core, and after it at most a shredded child.

@@ -11,7 +11,6 @@ ghost use Rattle.vx_encodings.specs.NumberMessage.{same_value};
 ghost use Rattle.vx_encodings.specs.Steps.{IsPlanned, RefusesPlanning, IsBuilt, RefusesBuilding};
 ghost use Rattle.vx_encodings.specs.declared.encoding.Encoding.TheVariants.{Bool};
 
-use crate::buffers::only_buffer;
 use crate::error::of_constructor;
 use crate::messages::{read_message, write_message};
 use crate::validity::only_validity;
@@ -104,7 +103,7 @@ pub(crate) fn build(
         DType::Bool(nullability) => *nullability,
         _ => unreachable!(),
     };
-    let bits = match only_buffer(buffers) {
+    let bits = match buffers.only_buffer() {
         Some(bits) => bits,
         None => return Err(EncodingError::BadShape),
     };

@@ -10,7 +10,6 @@ ghost use Rattle.vx_encodings.specs.DecimalMessage.{decimal_schema, decimal_valu
 ghost use Rattle.vx_encodings.specs.Steps.{IsPlanned, RefusesPlanning, IsBuilt, RefusesBuilding};
 ghost use Rattle.vx_encodings.specs.declared.encoding.Encoding.TheVariants.{Decimal};
 
-use crate::buffers::only_buffer;
 use crate::error::of_constructor;
 use crate::messages::{read_message, write_message};
 use crate::validity::only_validity;
@@ -80,6 +79,7 @@ pub(crate) fn plan(alloc: Global, head: &ArrayHead) -> Result<ChildPlans, Encodi
     ensures plan { (x : ExtMeaning) → IfOk result (λ plans. IsPlanned x Decimal head.now plans) }
     ensures err { (x : ExtMeaning) → IfErr result (λ e. RefusesPlanning e x Decimal head.now) }
 {
+    // Read for its refusals alone: the plan does not depend on the width, but metadata is judged before the shape.
     let _metadata: DecimalMetadata = read_message(alloc, head.metadata.as_slice())?;
     match head.dtype {
         DType::Decimal(_, _) => {}
@@ -88,7 +88,7 @@ pub(crate) fn plan(alloc: Global, head: &ArrayHead) -> Result<ChildPlans, Encodi
     plan_validity(alloc, head.len, head.nchildren)
 }
 
-// A copy of the digits.
+// A copy of the digits, made anew: their constructor says that they fit.
 fn same_digits(digits: &DecimalDType) -> DecimalDType
     ensures { result ≡ digits.now }
 {
@@ -114,7 +114,7 @@ pub(crate) fn build(
     let metadata: DecimalMetadata = read_message(alloc, head.metadata.as_slice())?;
     match &head.dtype {
         DType::Decimal(digits, nullability) => {
-            let values = match only_buffer(buffers) {
+            let values = match buffers.only_buffer() {
                 Some(values) => values,
                 None => return Err(EncodingError::BadShape),
             };

@@ -204,6 +204,7 @@ pub(crate) fn build(
     if !buffers.is_empty() {
         return Err(EncodingError::BadShape);
     }
+    // Absent, the flag promises nothing.
     let flag = metadata.all_values_referenced.unwrap_or(false);
     match DictArray::of_children(alloc, head.dtype, head.len, children, flag) {
         Ok(array) => Ok(array),

@@ -16,7 +16,7 @@ use crate::validity::first_and_validity;
 use std::alloc::Global;
 use vx_arrays::{Array, Arrays, FixedSizeListArray};
 use vx_buffer::BufferHandles;
-use vx_plans::{ArrayHead, ChildPlans, EncodingError, plan_behind, plan_of};
+use vx_plans::{ArrayHead, ChildPlans, EncodingError, plan_after, plan_of};
 use vx_types::DType;
 
 // The plan of a fixed-size list node's children: the size times as many elements as rows, and at most a validity.
@@ -50,7 +50,7 @@ fn plan_elements(
         None => Err(EncodingError::BadShape),
         Some(elements) => {
             let first = plan_of(alloc, element, elements)?;
-            plan_behind(alloc, first, len, count)
+            plan_after(alloc, first, len, count)
         }
     }
 }

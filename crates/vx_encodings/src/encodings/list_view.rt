@@ -21,7 +21,7 @@ use crate::messages::{kind_at, read_message, write_message};
 use std::alloc::Global;
 use vx_arrays::{Array, Arrays, ListViewArray};
 use vx_buffer::BufferHandles;
-use vx_plans::{ArrayHead, ChildPlan, ChildPlans, EncodingError, plan_behind_all, plan_of};
+use vx_plans::{ArrayHead, ChildPlan, ChildPlans, EncodingError, plan_after_all, plan_of};
 use vx_proto::{Element, Entries, Message, ProtoError, ScalarKind, Schema, Slot, one, u64_at};
 use vx_types::{Blob, DType, Nullability, PType};
 
@@ -136,7 +136,7 @@ fn plan_parts(
     front.push(plan_of(alloc, element, metadata.elements_len as usize)?)?;
     front.push(numbers_of(metadata.offset_ptype, len))?;
     front.push(numbers_of(metadata.size_ptype, len))?;
-    plan_behind_all(front, len, count)
+    plan_after_all(front, len, count)
 }
 
 // The plan of `len` numbers of a kind, none of them null.

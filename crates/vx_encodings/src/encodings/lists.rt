@@ -20,7 +20,7 @@ use crate::messages::{kind_at, read_message, write_message};
 use std::alloc::Global;
 use vx_arrays::{Array, Arrays, ListArray};
 use vx_buffer::BufferHandles;
-use vx_plans::{ArrayHead, ChildPlan, ChildPlans, EncodingError, plan_behind_all, plan_of};
+use vx_plans::{ArrayHead, ChildPlan, ChildPlans, EncodingError, plan_after_all, plan_of};
 use vx_proto::{Element, Entries, Message, ProtoError, ScalarKind, Schema, Slot, one, u64_at};
 use vx_types::{Blob, DType, Nullability, PType};
 
@@ -124,7 +124,7 @@ fn plan_parts(
         dtype: DType::Primitive(metadata.offset_ptype, Nullability::NonNullable),
         len: offsets,
     })?;
-    plan_behind_all(front, len, count)
+    plan_after_all(front, len, count)
 }
 
 // The node of lists of these parts.

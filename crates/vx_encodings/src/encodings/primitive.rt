@@ -7,7 +7,6 @@ ghost use Rattle.vx_array_tree.specs.Tree.{places};
 ghost use Rattle.vx_encodings.specs.Steps.{IsPlanned, RefusesPlanning, IsBuilt, RefusesBuilding};
 ghost use Rattle.vx_encodings.specs.declared.encoding.Encoding.TheVariants.{Primitive};
 
-use crate::buffers::only_buffer;
 use crate::empty_metadata::read_empty;
 use crate::error::of_constructor;
 use crate::validity::only_validity;
@@ -48,7 +47,7 @@ pub(crate) fn build(
         DType::Primitive(ptype, nullability) => (*ptype, *nullability),
         _ => unreachable!(),
     };
-    let values = match only_buffer(buffers) {
+    let values = match buffers.only_buffer() {
         Some(values) => values,
         None => return Err(EncodingError::BadShape),
     };

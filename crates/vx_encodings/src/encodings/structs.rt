@@ -4,7 +4,7 @@ ghost use Rattle.std.specs.Prelude.{◌≡◌, ◌++◌, Some, IfOk, IfErr, IsOk
 ghost use Rattle.vx_trees.specs.Rose.{roses_of};
 ghost use Rattle.vx_types.specs.Known.{ExtMeaning};
 ghost use Rattle.vx_types.specs.Seen.{typs};
-ghost use Rattle.vx_array_tree.specs.Place.{behind_validity as behind, places_at};
+ghost use Rattle.vx_array_tree.specs.Place.{after_validity as after, places_at};
 ghost use Rattle.vx_array_tree.specs.Sound.{IsSound};
 ghost use Rattle.vx_array_tree.specs.Tree.{places};
 ghost use Rattle.vx_encodings.specs.Steps.{IsPlanned, RefusesPlanning, IsBuilt, RefusesBuilding};
@@ -42,8 +42,8 @@ fn plan_fields(
     len: usize,
     count: usize,
 ) -> Result<ChildPlans, EncodingError>
-    ensures plan { IfOk result (λ plans. behind (places_at (roses_of (typs types.now)) len) len count ≡ Some plans) }
-    ensures err { IfErr result (λ e. RefusesPlaces e (behind (places_at (roses_of (typs types.now)) len) len count)) }
+    ensures plan { IfOk result (λ plans. after (places_at (roses_of (typs types.now)) len) len count ≡ Some plans) }
+    ensures err { IfErr result (λ e. RefusesPlaces e (after (places_at (roses_of (typs types.now)) len) len count)) }
 {
     let mut plans = ChildPlans::new(alloc);
     match count.checked_sub(types.len()) {

@@ -14,14 +14,13 @@ ghost use Rattle.vx_encodings.specs.Steps.{IsPlanned, RefusesPlanning, IsBuilt, 
 ghost use Rattle.vx_encodings.specs.VarBinMessage.{varbin_schema, varbin_value, varbin_bytes, same_kind};
 ghost use Rattle.vx_encodings.specs.declared.encoding.Encoding.TheVariants.{VarBin};
 
-use crate::buffers::only_buffer;
 use crate::error::of_constructor;
 use crate::messages::{read_message, write_message};
 use crate::validity::first_and_validity;
 use std::alloc::Global;
 use vx_arrays::{Array, Arrays, VarBinArray};
 use vx_buffer::BufferHandles;
-use vx_plans::{ArrayHead, ChildPlan, ChildPlans, EncodingError, plan_behind};
+use vx_plans::{ArrayHead, ChildPlan, ChildPlans, EncodingError, plan_after};
 use vx_proto::{Element, Entries, Message, ProtoError, ScalarKind, Schema, Slot, one, u8_at};
 use vx_types::{Blob, DType, Nullability, PType};
 
@@ -91,6 +90,7 @@ pub(crate) fn plan(alloc: Global, head: &ArrayHead) -> Result<ChildPlans, Encodi
     if !is_of_bytes(&head.dtype) {
         return Err(EncodingError::BadShape);
     }
+    // There is one offset more than rows, so the greatest length has no offsets.
     match head.len.checked_add(1) {
         None => Err(EncodingError::BadShape),
         Some(count) => {
@@ -98,7 +98,7 @@ pub(crate) fn plan(alloc: Global, head: &ArrayHead) -> Result<ChildPlans, Encodi
                 dtype: DType::Primitive(metadata.offsets_ptype, Nullability::NonNullable),
                 len: count,
             };
-            plan_behind(alloc, offsets, head.len, head.nchildren)
+            plan_after(alloc, offsets, head.len, head.nchildren)
         }
     }
 }
@@ -127,7 +127,7 @@ pub(crate) fn build(
     ensures sound { IfOk result IsSound }
     ensures err { (x : ExtMeaning) → IfErr result (λ e. RefusesBuilding e x VarBin head buffers children) }
 {
-    let bytes = match only_buffer(buffers) {
+    let bytes = match buffers.only_buffer() {
         Some(bytes) => bytes,
         None => return Err(EncodingError::BadShape),
     };
@@ -148,6 +148,7 @@ pub(crate) fn metadata(alloc: Global, children: &[Array]) -> Result<Blob, Encodi
     write_message(alloc, VarBinMetadata { offsets_ptype })
 }
 
+// The kind of the offsets, or some kind where there are none.
 fn offsets_kind(children: &[Array]) -> PType
     ensures { result ≡ metadata_of (places (roses_of children.now)) }
 {

@@ -1,5 +1,5 @@
 -- A row's mark is that of its type.
-use Rattle.vx_arrays.proofs.Parted.{text_of_type, text_mark, bytes_mark, of_bytes}
+use Rattle.vx_arrays.proofs.Split.{text_of_type, text_mark, bytes_mark, of_bytes}
 use Rattle.vx_arrays.proofs.texts.lone_part.Goals as goal
 
 pub text_of-requires : goal.text_of-requires

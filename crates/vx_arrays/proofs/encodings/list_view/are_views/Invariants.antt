@@ -6,4 +6,4 @@ use Rattle.vx_arrays.proofs.encodings.list_view.are_views.Given as goal
 
 -- the rows so far that are there have their elements
 abbrev pub invariant-loop-i : goal.invariant-loop-i
-invariant-loop-i l = AreUpTo l.elements (rows_of l.offsets) (rows_of l.sizes) (validity (rows_below (roses_of l.behind))) l.i
+invariant-loop-i l = AreUpTo l.elements (rows_of l.offsets) (rows_of l.sizes) (validity (rows_below (roses_of l.after))) l.i

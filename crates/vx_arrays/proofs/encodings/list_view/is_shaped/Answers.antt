@@ -9,5 +9,5 @@ returns-then-children-lt3 c = (λ t. absurd (false≢true t), λ s. absurd (neve
 
 pub returns : goal.returns
 returns c =
-    parts_decide (typ c.args.dtype.now) c.args.len c.args.zero_copy c.are_parts.result c.args.children.now c.parted.result.0.now c.parted-2.result.0.now c.parted-3.result.0.now c.parted.result.1.now c.parted-2.result.1.now c.parted-3.result.1.now
-    c.parted.ensures c.parted-2.ensures c.parted-3.ensures c.are_parts.ensures
+    parts_decide (typ c.args.dtype.now) c.args.len c.args.zero_copy c.are_parts.result c.args.children.now c.split_first.result.0.now c.split_first-2.result.0.now c.split_first-3.result.0.now c.split_first.result.1.now c.split_first-2.result.1.now c.split_first-3.result.1.now
+    c.split_first.ensures c.split_first-2.ensures c.split_first-3.ensures c.are_parts.ensures

@@ -5,7 +5,7 @@ use Rattle.std.specs.Prelude.{option_map}
 use Rattle.std.proofs.lemmas.Option.{same_Some}
 use Rattle.vx_trees.specs.Rose.{label, roses_of}
 use Rattle.vx_types.specs.Seen.{typ}
-use Rattle.vx_arrays.proofs.Listed.{listed_decide, shaped_listed, behind_type}
+use Rattle.vx_arrays.proofs.Listed.{listed_decide, shaped_listed, after_type}
 use Rattle.vx_arrays.proofs.encodings.lists.are_parts.Goals as goal
 
 pub returns-then-not-is_of_type : goal.returns-then-not-is_of_type
@@ -25,6 +25,6 @@ returns-then-not-are_counted c = (
 pub returns : goal.returns
 returns c =
     let k = c.if-not-are_counted.ensures in
-    listed_decide (typ c.args.dtype.now) c.args.len c.stands_behind.result c.args.elements.now c.args.offsets.now (roses_of c.args.behind.now)
+    listed_decide (typ c.args.dtype.now) c.args.len c.is_validity_after.result c.args.elements.now c.args.offsets.now (roses_of c.args.after.now)
     (sym c.element_type.ensures ∙ ap (λ o. option_map (λ d. typ d.now) o) c.in-Some.is ∙ ap (λ z. Some z) (sym (c.if-not-is_of_type.ensures.0 refl)))
-    (k.kind refl) (k.counted refl) (k.few refl) (behind_type _ c.args.len c.stands_behind.result (typ c.args.dtype.now) (roses_of c.args.behind.now) c.nullability.ensures c.stands_behind.ensures)
+    (k.kind refl) (k.counted refl) (k.few refl) (after_type _ c.args.len c.is_validity_after.result (typ c.args.dtype.now) (roses_of c.args.after.now) c.nullability.ensures c.is_validity_after.ensures)

@@ -10,7 +10,7 @@ use Rattle.vx_array_tree.specs.Tree.{places}
 use Rattle.vx_types.proofs.LawsOfTypes.{typs-length}
 use Rattle.vx_arrays.proofs.Columns.{none_right, front_and_columns, without_front}
 use Rattle.vx_arrays.proofs.Fielded.{columns_decide}
-use Rattle.vx_arrays.proofs.Parted.{first_and_behind}
+use Rattle.vx_arrays.proofs.Split.{first_and_after}
 use Rattle.vx_arrays.proofs.encodings.structs.are_shaped.Goals as goal
 
 pub returns-then-children-types : goal.returns-then-children-types
@@ -37,7 +37,7 @@ returns-then-is_front c =
     let us = take (length ts - 1) (drop 1 ts) in
     let v = c.validity-item.result in
     let e : typs c.as_slice-types.result.now ≡ f.types = c.as_slice-types.ensures ∙ c.fields.ensures in
-    let q = first_and_behind ts v c.in-len1-up.len_at_least c.validity-item.is in
+    let q = first_and_after ts v c.in-len1-up.len_at_least c.validity-item.is in
     front_and_columns f c.args.nullability c.args.len (roses_of ts) v (roses_of us) c.are_columns-then-is_front.result q
     (λ j. c.if-children-types.false (sym (count-roses_of ts) ∙ ap (λ zs. count zs) q ∙ j ∙ sym (ap (λ (ds : List Typ). length ds) e) ∙ typs-length c.as_slice-types.result.now))
     (c.is_front.ensures.0 c.if-is_front.true)
@@ -50,7 +50,7 @@ returns-else-is_front c =
     let us = take (length ts - 1) (drop 1 ts) in
     let v = c.validity-item.result in
     let e : typs c.as_slice-types.result.now ≡ f.types = c.as_slice-types.ensures ∙ c.fields.ensures in
-    let q = first_and_behind ts v c.in-len1-up.len_at_least c.validity-item.is in
+    let q = first_and_after ts v c.in-len1-up.len_at_least c.validity-item.is in
     without_front f c.args.nullability c.args.len (roses_of ts) v (roses_of us) c.is_front.result q
     (λ j. c.if-children-types.false (sym (count-roses_of ts) ∙ ap (λ zs. count zs) q ∙ j ∙ sym (ap (λ (ds : List Typ). length ds) e) ∙ typs-length c.as_slice-types.result.now))
     c.is_front.ensures c.if-is_front.false

@@ -6,7 +6,7 @@ use Rattle.vx_types.specs.Seen.{typs}
 use Rattle.vx_types.specs.Typ.{Typ}
 use Rattle.vx_array_tree.specs.Place.{places_at}
 use Rattle.vx_array_tree.specs.Tree.{places}
-use Rattle.vx_arrays.proofs.Parted.{first_and_behind}
+use Rattle.vx_arrays.proofs.Split.{first_and_after}
 use Rattle.vx_arrays.proofs.Tagged.{without_tags, members_decide, other_tags}
 use Rattle.vx_arrays.proofs.encodings.union.are_shaped.Goals as goal
 
@@ -20,7 +20,7 @@ returns-then-are_tags c =
     let us = take (length ts - 1) (drop 1 ts) in
     let t = c.tags-item.result in
     let e : typs c.as_slice.result.now ≡ v.types = c.as_slice.ensures ∙ c.variants.ensures in
-    members_decide v c.args.nullability c.args.len (roses_of ts) t (roses_of us) (first_and_behind ts t c.in-len1-up.len_at_least c.tags-item.is) c.are_columns.result (c.are_tags.ensures.0 c.if-are_tags.true)
+    members_decide v c.args.nullability c.args.len (roses_of ts) t (roses_of us) (first_and_after ts t c.in-len1-up.len_at_least c.tags-item.is) c.are_columns.result (c.are_tags.ensures.0 c.if-are_tags.true)
     (subst (λ (ds : List Typ). IsTrue c.are_columns.result ↔ (places (roses_of us) ≡ places_at (roses_of ds) c.args.len)) e c.are_columns.ensures)
 
 pub returns-else-are_tags : goal.returns-else-are_tags
@@ -28,4 +28,4 @@ returns-else-are_tags c =
     let ts = c.args.children.now in
     let us = take (length ts - 1) (drop 1 ts) in
     let t = c.tags-item.result in
-    other_tags c.args.members.now c.args.nullability c.args.len (roses_of ts) t (roses_of us) (first_and_behind ts t c.in-len1-up.len_at_least c.tags-item.is) c.are_tags.result c.are_tags.ensures c.if-are_tags.false
+    other_tags c.args.members.now c.args.nullability c.args.len (roses_of ts) t (roses_of us) (first_and_after ts t c.in-len1-up.len_at_least c.tags-item.is) c.are_tags.result c.are_tags.ensures c.if-are_tags.false

@@ -4,7 +4,7 @@ use Rattle.vx_buffer.specs.Buffer.{Buffer}
 use Rattle.vx_trees.specs.Rose.{more}
 use Rattle.vx_types.specs.Seen.{typ}
 use Rattle.vx_array_tree.specs.Tree.{option_trees}
-use Rattle.vx_arrays.proofs.Parted.{shaped_counted, shaped_planned, shaped_bytes, of_bytes, no_offsets, texts_decide, bytes_decide}
+use Rattle.vx_arrays.proofs.Split.{shaped_counted, shaped_planned, shaped_bytes, of_bytes, no_offsets, texts_decide, bytes_decide}
 use Rattle.vx_arrays.proofs.encodings.varbin.has_content.Goals as goal
 
 pub are_offsets-requires : goal.are_offsets-requires

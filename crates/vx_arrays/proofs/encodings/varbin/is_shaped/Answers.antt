@@ -2,7 +2,7 @@
 use Rattle.std.proofs.lemmas.Bool.{false≢true}
 use Rattle.vx_types.specs.Seen.{typ}
 use Rattle.vx_array_tree.specs.Tree.{option_trees}
-use Rattle.vx_arrays.proofs.Parted.{unshaped_offsets, unshaped_bytes, validity_decides}
+use Rattle.vx_arrays.proofs.Split.{unshaped_offsets, unshaped_bytes, validity_decides}
 use Rattle.vx_arrays.proofs.encodings.varbin.is_shaped.Goals as goal
 
 pub returns-then-not-is_of_offsets-clause-shaped : goal.returns-then-not-is_of_offsets-clause-shaped

@@ -8,7 +8,7 @@ use Rattle.vx_types.specs.declared.dtype.DType.{DType}
 use Rattle.vx_array_tree.specs.Encodings.Dicts.{raised}
 use Rattle.vx_array_tree.specs.Tree.{Trees}
 use Rattle.vx_arrays.specs.Dicts.{dict_head}
-use Rattle.vx_arrays.proofs.Behind.{if_ok}
+use Rattle.vx_arrays.proofs.After.{if_ok}
 use Rattle.vx_arrays.proofs.Over.{complete_over}
 use Rattle.vx_arrays.proofs.encodings.dict.DictArray.try_new.Goals as goal
 

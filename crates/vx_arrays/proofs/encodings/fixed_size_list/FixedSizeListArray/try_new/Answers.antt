@@ -9,7 +9,7 @@ use Rattle.vx_array_tree.specs.Body as B
 use Rattle.vx_array_tree.specs.Tree.{option_trees, untold}
 use Rattle.vx_arrays.specs.FixedSizeLists.{fixed_size_list_head}
 use Rattle.vx_arrays.specs.declared.array.Array.{Array}
-use Rattle.vx_arrays.proofs.Behind.{if_ok}
+use Rattle.vx_arrays.proofs.After.{if_ok}
 use Rattle.vx_arrays.proofs.Over.{shaped_over}
 use Rattle.vx_arrays.proofs.encodings.fixed_size_list.FixedSizeListArray.try_new.Goals as goal
 

@@ -7,16 +7,16 @@ use Rattle.vx_arrays.proofs.encodings.lists.ListArray.parts_at.Goals as goal
 
 pub overflow_sub-count : goal.overflow_sub-count
 overflow_sub-count c =
-    in_order c.parted-2.result.0.now c.args.len c.len-total.result c.offset_at-start.result c.offset_at.result c.args.index
-    (sound_offsets (typ c.args.dtype.now) c.args.len (roses_of c.args.children.now) (roses_of c.parted.result.1.now) c.parted.result.0.now c.parted-2.result.0.now (roses_of c.parted-2.result.1.now) c.parted.ensures c.parted-2.ensures c.requires.sound c.len-total.result c.len-total.ensures.len)
+    in_order c.split_first-2.result.0.now c.args.len c.len-total.result c.offset_at-start.result c.offset_at.result c.args.index
+    (sound_offsets (typ c.args.dtype.now) c.args.len (roses_of c.args.children.now) (roses_of c.split_first.result.1.now) c.split_first.result.0.now c.split_first-2.result.0.now (roses_of c.split_first-2.result.1.now) c.split_first.ensures c.split_first-2.ensures c.requires.sound c.len-total.result c.len-total.ensures.len)
     c.requires.inside c.offset_at-start.ensures.value c.offset_at.ensures.value
 
 pub returns-clause-value : goal.returns-clause-value
 returns-clause-value c =
-    list_value (typ c.args.dtype.now) c.args.len (roses_of c.args.children.now) (roses_of c.parted.result.1.now) c.parted.result.0.now c.parted-2.result.0.now (roses_of c.parted-2.result.1.now) c.parted.ensures c.parted-2.ensures
+    list_value (typ c.args.dtype.now) c.args.len (roses_of c.args.children.now) (roses_of c.split_first.result.1.now) c.split_first.result.0.now c.split_first-2.result.0.now (roses_of c.split_first-2.result.1.now) c.split_first.ensures c.split_first-2.ensures
     c.offset_at-start.result c.offset_at.result c.args.index c.valid_at-valid.result (parts_value c.where_there.result) c.offset_at-start.ensures.value c.offset_at.ensures.value c.valid_at-valid.ensures c.where_there.ensures.value
 
 pub returns-clause-cells : goal.returns-clause-cells
 returns-clause-cells c =
-    list_cells (typ c.args.dtype.now) c.args.len (roses_of c.args.children.now) (roses_of c.parted.result.1.now) c.parted.result.0.now c.parted-2.result.0.now (roses_of c.parted-2.result.1.now) c.parted.ensures c.parted-2.ensures
+    list_cells (typ c.args.dtype.now) c.args.len (roses_of c.args.children.now) (roses_of c.split_first.result.1.now) c.split_first.result.0.now c.split_first-2.result.0.now (roses_of c.split_first-2.result.1.now) c.split_first.ensures c.split_first-2.ensures
     c.offset_at-start.result c.offset_at.result c.args.index c.valid_at-valid.result (parts_cells c.where_there.result) c.offset_at-start.ensures.value c.offset_at.ensures.value c.valid_at-valid.ensures c.where_there.ensures.cells

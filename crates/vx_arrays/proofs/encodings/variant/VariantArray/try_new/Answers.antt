@@ -5,7 +5,7 @@ use Rattle.vx_types.specs.Seen.{typ}
 use Rattle.vx_types.specs.declared.dtype.DType.{DType}
 use Rattle.vx_array_tree.specs.Body as B
 use Rattle.vx_array_tree.specs.Tree.{Trees, option_trees, untold}
-use Rattle.vx_arrays.proofs.Behind.{if_ok}
+use Rattle.vx_arrays.proofs.After.{if_ok}
 use Rattle.vx_arrays.proofs.Over.{complete_over}
 use Rattle.vx_arrays.proofs.encodings.variant.VariantArray.try_new.Goals as goal
 

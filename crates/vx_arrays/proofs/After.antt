@@ -32,19 +32,19 @@ pub if_ok : {A B : Type 0} (P : A → Type 0) (r : Result A B) (x : A) → r ≡
 if_ok {A} {B} P r x e h = subst (λ (q : Result A B). IfOk q P) e h
 
 module _ (none zs vs : Trees) (e : none ≡ end) where
-  pub behind_none : roses_list zs ≡ roses_list none ++ roses_list vs → zs ≡ vs
-  behind_none h = listed_are zs vs (h ∙ ap (λ (ts : Trees). roses_list ts ++ roses_list vs) e)
+  pub after_none : roses_list zs ≡ roses_list none ++ roses_list vs → zs ≡ vs
+  after_none h = listed_are zs vs (h ∙ ap (λ (ts : Trees). roses_list ts ++ roses_list vs) e)
 
   module _ (xs : Trees) (a : Tree) (f : roses_list xs ≡ roses_list none ++ a ∷ []) where
-    pub behind_one : roses_list zs ≡ roses_list xs ++ roses_list vs → zs ≡ more a vs
-    behind_one h = listed_are zs (more a vs) (last_put xs zs vs (a ∷ []) (one_put none xs a e f) h)
+    pub after_one : roses_list zs ≡ roses_list xs ++ roses_list vs → zs ≡ more a vs
+    after_one h = listed_are zs (more a vs) (last_put xs zs vs (a ∷ []) (one_put none xs a e f) h)
 
     module _ (ys : Trees) (b : Tree) (g : roses_list ys ≡ roses_list xs ++ b ∷ []) where
       two : roses_list ys ≡ a ∷ b ∷ []
       two = next_put xs ys (a ∷ []) b (one_put none xs a e f) g
 
-      pub behind_two : roses_list zs ≡ roses_list ys ++ roses_list vs → zs ≡ more a (more b vs)
-      behind_two h = listed_are zs (more a (more b vs)) (last_put ys zs vs (a ∷ b ∷ []) two h)
+      pub after_two : roses_list zs ≡ roses_list ys ++ roses_list vs → zs ≡ more a (more b vs)
+      after_two h = listed_are zs (more a (more b vs)) (last_put ys zs vs (a ∷ b ∷ []) two h)
 
-      pub behind_three : (ws : Trees) (d : Tree) → roses_list ws ≡ roses_list ys ++ d ∷ [] → roses_list zs ≡ roses_list ws ++ roses_list vs → zs ≡ more a (more b (more d vs))
-      behind_three ws d k h = listed_are zs (more a (more b (more d vs))) (last_put ws zs vs (a ∷ b ∷ d ∷ []) (next_put ys ws (a ∷ b ∷ []) d two k) h)
+      pub after_three : (ws : Trees) (d : Tree) → roses_list ws ≡ roses_list ys ++ d ∷ [] → roses_list zs ≡ roses_list ws ++ roses_list vs → zs ≡ more a (more b (more d vs))
+      after_three ws d k h = listed_are zs (more a (more b (more d vs))) (last_put ws zs vs (a ∷ b ∷ d ∷ []) (next_put ys ws (a ∷ b ∷ []) d two k) h)

@@ -29,7 +29,7 @@ use Rattle.vx_array_tree.specs.Sound.{IsSoundNode}
 use Rattle.vx_array_tree.specs.Tree.{Tree, Trees, places, rows_below, rows_of, untold}
 use Rattle.vx_array_tree.proofs.Options.{mapped, let_through}
 use Rattle.vx_arrays.specs.Validity.{IsValidity}
-use Rattle.vx_arrays.specs.VarBins.{varbin_head, IsOfBytes, IsOfOffsets, IsParted}
+use Rattle.vx_arrays.specs.VarBins.{varbin_head, IsOfBytes, IsOfOffsets, IsSplit}
 
 -- ---- what a plan says
 
@@ -66,8 +66,8 @@ module _ (d : Typ) (n : ℕ) (b : Buffer) where
       let p = (plan_of_bytes d n (ptype_of (label o).dtype) (suc (count vs)) (places (more o vs)) s.planned).1 in
       front_is (place (numbers (ptype_of (label o).dtype)) (suc n)) n o vs (let_through (is_len (suc n)) _ _ p)
 
-  pub shaped_parted : (o : Tree) (vs : Trees) → IsWellShaped (varbin_head d n b) (more o vs) → IsParted n o vs
-  shaped_parted o vs s = record { counted = ap (λ (p : Place). p.len) (front o vs s).0; planned = (front o vs s).1 }
+  pub shaped_split : (o : Tree) (vs : Trees) → IsWellShaped (varbin_head d n b) (more o vs) → IsSplit n o vs
+  shaped_split o vs s = record { counted = ap (λ (p : Place). p.len) (front o vs s).0; planned = (front o vs s).1 }
 
   pub shaped_offsets : (o : Tree) (vs : Trees) → IsWellShaped (varbin_head d n b) (more o vs) → IsOfOffsets (label o).dtype
   shaped_offsets o vs s = subst (λ (z : Typ). IsOfOffsets z) (sym (ap (λ (p : Place). p.dtype) (front o vs s).0)) s.fair
@@ -126,10 +126,10 @@ module _ (d : Typ) (n : ℕ) (x : Data) where
     content = subst (λ (z : Trees). Content d n x (rows_below z)) e s.content
 
     pub sound_counted : (label o).len ≡ suc n
-    sound_counted = (shaped_parted d n x.bytes o vs front_shape).counted
+    sound_counted = (shaped_split d n x.bytes o vs front_shape).counted
 
     pub sound_planned : before_validity [] n (count vs) ≡ Some (places vs)
-    sound_planned = (shaped_parted d n x.bytes o vs front_shape).planned
+    sound_planned = (shaped_split d n x.bytes o vs front_shape).planned
 
     pub sound_offsets : (bs : List ℕ) → bs ≡ x.bytes.bytes → AreOffsets (rows_of o) n (length bs)
     sound_offsets bs q = subst (λ (y : List ℕ). AreOffsets (rows_of o) n (length y)) (sym q) content.offsets
@@ -182,9 +182,9 @@ module _ (z : DType) (m : Nullability) (bs : List ℕ) where
 -- ---- the first of some children
 
 -- The first of some children, and those after it.
-pub first_and_behind : (ts : List Tree) (o : Tree) → 1 ≤ length ts → o ≡ get_or ts 0 o → roses_of ts ≡ more o (roses_of (take (length ts - 1) (drop 1 ts)))
-first_and_behind [] o h e = absurd (omega (arith, h))
-first_and_behind (t ∷ ts) o h e =
+pub first_and_after : (ts : List Tree) (o : Tree) → 1 ≤ length ts → o ≡ get_or ts 0 o → roses_of ts ≡ more o (roses_of (take (length ts - 1) (drop 1 ts)))
+first_and_after [] o h e = absurd (omega (arith, h))
+first_and_after (t ∷ ts) o h e =
     let a : take (suc (length ts) - 1) ts ≡ ts = take_all {A = Tree} (suc (length ts) - 1) ts (omega arith) in
     ap (λ (u : Tree). more u (roses_of ts)) (sym e) ∙ ap (λ (us : List Tree). more o (roses_of us)) (sym a)
 
@@ -220,10 +220,10 @@ module _ (d : Typ) (n : ℕ) (b : Buffer) (o : Tree) (vs : Trees) where
       )
 
   pub shaped_counted : IsWellShaped (varbin_head d n b) (more o vs) → (label o).len ≡ suc n
-  shaped_counted s = (shaped_parted d n b o vs s).counted
+  shaped_counted s = (shaped_split d n b o vs s).counted
 
   pub shaped_planned : IsWellShaped (varbin_head d n b) (more o vs) → before_validity [] n (count vs) ≡ Some (places vs)
-  shaped_planned s = (shaped_parted d n b o vs s).planned
+  shaped_planned s = (shaped_split d n b o vs s).planned
 
 -- ---- what tests say of content
 
