@@ -1,14 +1,15 @@
 //! Verifies a message and gives the view of its root; and restores a view from its place.
 
-ghost use Rattle.std.specs.Prelude.{◌≡◌, ◌+◌, ◌<◌, ◌≤◌, IsOk, IsErrOf, IfOk, OnOk};
+ghost use Rattle.std.specs.Prelude.{◌≡◌, ◌+◌, ◌<◌, ◌≤◌, OnOk};
 ghost use Rattle.vx_flat.specs.Value.{Fields};
-ghost use Rattle.vx_flat.specs.Shows.{Shows, ShowsAt};
+ghost use Rattle.vx_flat.specs.Shows.{ShowsAt};
 ghost use Rattle.vx_flat.specs.Weight as weigh;
-ghost use Rattle.vx_flat.specs.Limits.{limits, limits_to, KeepsLimits};
-ghost use Rattle.vx_flat.specs.Seen.{IsViewAt, IsRootView};
+ghost use Rattle.vx_flat.specs.Limits.{limits, limits_to};
+ghost use Rattle.vx_flat.specs.Seen.{IsViewAt};
+ghost use Rattle.vx_flat.specs.Verified.{Verified};
 
 use crate::error::FlatError;
-use crate::limits::Limits;
+use crate::limits::{LIMITS, Limits};
 use crate::reading::budget::Budget;
 use crate::reading::places::u32_at;
 use crate::reading::verifying::verify_table;
@@ -26,16 +27,7 @@ fn verify_within<'a, K: TableKind, L: Ledger>(
     limits: Limits,
     steps: &mut Steps<L>,
 ) -> Result<View<'a>, FlatError>
-    ensures shows { IfOk result (λ v. IsRootView K.schema message.now v) }
-    ensures within_limits { OnOk result (KeepsLimits limits (weigh.weight K.schema message.now)) }
-    ensures bad { IsErrOf result FlatError.BadTable
-        → (v : Fields) → Shows K.schema message.now v → ⊥ }
-    ensures limit { IsErrOf result FlatError.TableLimit
-        → KeepsLimits limits (weigh.weight K.schema message.now) → ⊥ }
-    ensures takes_no_memory { IsErrOf result FlatError.OutOfMemory → ⊥ }
-    ensures never_long { IsErrOf result FlatError.MessageTooLong → ⊥ }
-    ensures complete { (v : Fields) → Shows K.schema message.now v
-        → KeepsLimits limits (weigh.weight K.schema message.now) → IsOk result }
+    ensures verified { Verified K.schema limits message.now result }
     ensures exact { OnOk result (steps.new ≡ steps.old + (weigh.weight K.schema message.now).tables) }
     ensures bound { steps.new ≤ steps.old + limits.tables + 1 }
 {
@@ -71,6 +63,22 @@ fn verify_within<'a, K: TableKind, L: Ledger>(
     })
 }
 
+// [`verify_within`] with a counter of its own.
+fn verify_by<'a, K: TableKind, L: Ledger>(
+    message: &'a [u8],
+    kind: &K,
+    limits: Limits,
+    blank: Blank,
+) -> Result<View<'a>, FlatError>
+    requires name { blank.name ≡ L.name }
+    requires parts { blank.parts ≡ L.parts }
+    requires some { 0 < blank.parts }
+    ensures { Verified K.schema limits message.now result }
+{
+    let mut steps: Steps<L> = Steps::new(blank);
+    verify_within(message, kind, limits, &mut steps)
+}
+
 /// Verifies a message and gives the view of its root. Tables may nest 128 deep with `deep`, and 64
 /// deep without. It allocates nothing, and takes one step for each table that it enters, at most
 /// 1,000,001. A shared part is verified once for each path to it.
@@ -85,16 +93,7 @@ pub fn verify_to<'a, K: TableKind, L: Ledger>(
     deep: bool,
     steps: &mut Steps<L>,
 ) -> Result<View<'a>, FlatError>
-    ensures shows { IfOk result (λ v. IsRootView K.schema message.now v) }
-    ensures within_limits { OnOk result (KeepsLimits (limits_to deep) (weigh.weight K.schema message.now)) }
-    ensures bad { IsErrOf result FlatError.BadTable
-        → (v : Fields) → Shows K.schema message.now v → ⊥ }
-    ensures limit { IsErrOf result FlatError.TableLimit
-        → KeepsLimits (limits_to deep) (weigh.weight K.schema message.now) → ⊥ }
-    ensures takes_no_memory { IsErrOf result FlatError.OutOfMemory → ⊥ }
-    ensures never_long { IsErrOf result FlatError.MessageTooLong → ⊥ }
-    ensures complete { (v : Fields) → Shows K.schema message.now v
-        → KeepsLimits (limits_to deep) (weigh.weight K.schema message.now) → IsOk result }
+    ensures verified { Verified K.schema (limits_to deep) message.now result }
     ensures exact { OnOk result (steps.new ≡ steps.old + (weigh.weight K.schema message.now).tables) }
     ensures bound { steps.new ≤ steps.old + 1000001 }
 {
@@ -107,45 +106,11 @@ pub fn verify<'a, K: TableKind, L: Ledger>(
     kind: &K,
     steps: &mut Steps<L>,
 ) -> Result<View<'a>, FlatError>
-    ensures shows { IfOk result (λ v. IsRootView K.schema message.now v) }
-    ensures within_limits { OnOk result (KeepsLimits limits (weigh.weight K.schema message.now)) }
-    ensures bad { IsErrOf result FlatError.BadTable
-        → (v : Fields) → Shows K.schema message.now v → ⊥ }
-    ensures limit { IsErrOf result FlatError.TableLimit
-        → KeepsLimits limits (weigh.weight K.schema message.now) → ⊥ }
-    ensures takes_no_memory { IsErrOf result FlatError.OutOfMemory → ⊥ }
-    ensures never_long { IsErrOf result FlatError.MessageTooLong → ⊥ }
-    ensures complete { (v : Fields) → Shows K.schema message.now v
-        → KeepsLimits limits (weigh.weight K.schema message.now) → IsOk result }
+    ensures verified { Verified K.schema limits message.now result }
     ensures exact { OnOk result (steps.new ≡ steps.old + (weigh.weight K.schema message.now).tables) }
     ensures bound { steps.new ≤ steps.old + 1000001 }
 {
-    verify_to(message, kind, false, steps)
-}
-
-// [`verify_to`] with a counter of its own.
-fn verify_by<'a, K: TableKind, L: Ledger>(
-    message: &'a [u8],
-    kind: &K,
-    deep: bool,
-    blank: Blank,
-) -> Result<View<'a>, FlatError>
-    requires name { blank.name ≡ L.name }
-    requires parts { blank.parts ≡ L.parts }
-    requires some { 0 < blank.parts }
-    ensures shows { IfOk result (λ v. IsRootView K.schema message.now v) }
-    ensures within_limits { OnOk result (KeepsLimits (limits_to deep) (weigh.weight K.schema message.now)) }
-    ensures bad { IsErrOf result FlatError.BadTable
-        → (v : Fields) → Shows K.schema message.now v → ⊥ }
-    ensures limit { IsErrOf result FlatError.TableLimit
-        → KeepsLimits (limits_to deep) (weigh.weight K.schema message.now) → ⊥ }
-    ensures takes_no_memory { IsErrOf result FlatError.OutOfMemory → ⊥ }
-    ensures never_long { IsErrOf result FlatError.MessageTooLong → ⊥ }
-    ensures complete { (v : Fields) → Shows K.schema message.now v
-        → KeepsLimits (limits_to deep) (weigh.weight K.schema message.now) → IsOk result }
-{
-    let mut steps: Steps<L> = Steps::new(blank);
-    verify_to(message, kind, deep, &mut steps)
+    verify_within(message, kind, LIMITS, steps)
 }
 
 /// [`verify_to`] without a count of steps.
@@ -154,18 +119,9 @@ pub fn verify_uncounted_to<'a, K: TableKind>(
     kind: &K,
     deep: bool,
 ) -> Result<View<'a>, FlatError>
-    ensures shows { IfOk result (λ v. IsRootView K.schema message.now v) }
-    ensures within_limits { OnOk result (KeepsLimits (limits_to deep) (weigh.weight K.schema message.now)) }
-    ensures bad { IsErrOf result FlatError.BadTable
-        → (v : Fields) → Shows K.schema message.now v → ⊥ }
-    ensures limit { IsErrOf result FlatError.TableLimit
-        → KeepsLimits (limits_to deep) (weigh.weight K.schema message.now) → ⊥ }
-    ensures takes_no_memory { IsErrOf result FlatError.OutOfMemory → ⊥ }
-    ensures never_long { IsErrOf result FlatError.MessageTooLong → ⊥ }
-    ensures complete { (v : Fields) → Shows K.schema message.now v
-        → KeepsLimits (limits_to deep) (weigh.weight K.schema message.now) → IsOk result }
+    ensures { Verified K.schema (limits_to deep) message.now result }
 {
-    verify_by::<K, Brand>(message, kind, deep, Blank::new(1))
+    verify_by::<K, Brand>(message, kind, Limits::to(deep), Blank::new(1))
 }
 
 /// [`verify`] without a count of steps.
@@ -173,18 +129,9 @@ pub fn verify_uncounted<'a, K: TableKind>(
     message: &'a [u8],
     kind: &K,
 ) -> Result<View<'a>, FlatError>
-    ensures shows { IfOk result (λ v. IsRootView K.schema message.now v) }
-    ensures within_limits { OnOk result (KeepsLimits limits (weigh.weight K.schema message.now)) }
-    ensures bad { IsErrOf result FlatError.BadTable
-        → (v : Fields) → Shows K.schema message.now v → ⊥ }
-    ensures limit { IsErrOf result FlatError.TableLimit
-        → KeepsLimits limits (weigh.weight K.schema message.now) → ⊥ }
-    ensures takes_no_memory { IsErrOf result FlatError.OutOfMemory → ⊥ }
-    ensures never_long { IsErrOf result FlatError.MessageTooLong → ⊥ }
-    ensures complete { (v : Fields) → Shows K.schema message.now v
-        → KeepsLimits limits (weigh.weight K.schema message.now) → IsOk result }
+    ensures { Verified K.schema limits message.now result }
 {
-    verify_uncounted_to(message, kind, false)
+    verify_by::<K, Brand>(message, kind, LIMITS, Blank::new(1))
 }
 
 /// Restores a view of this kind from its place in the same bytes, without a check. Its weight is the

@@ -1,10 +1,9 @@
-use Rattle.std.proofs.Common.{subst, sym}
-use Rattle.vx_flat.specs.Limits.{KeepsLimits}
-use Rattle.vx_flat.specs.Weight.{weight}
+use Rattle.std.proofs.Common.{subst}
 use Rattle.vx_flat.specs.declared.limits.Limits.{Limits}
+use Rattle.vx_flat.specs.Verified.{Verified}
 use Rattle.vx_flat.proofs.viewing.opening.verify_to.Goals as goal
 
-pub returns-clause-complete : goal.returns-clause-complete
-returns-clause-complete g c =
-    let L : Limits → Type 0 = λ l. KeepsLimits l (weight g.K.TableKind.schema c.args.message.now) in
-    λ v shows within_limits. c.verify_within.ensures.complete v shows (subst L (sym c.to.ensures) within_limits)
+pub returns-clause-verified : goal.returns-clause-verified
+returns-clause-verified g c =
+    let P : Limits → Type 0 = λ l. Verified g.K.TableKind.schema l c.args.message.now c.verify_within.result in
+    subst P c.to.ensures c.verify_within.ensures.verified
