@@ -4,7 +4,7 @@ use crate::levels::levels;
 use crate::program::{COMMANDS, Command, FILES, are_same_at, are_same_but, status_of, store_of};
 use std::alloc::Global;
 use vx_serde_tests::files::NULL_TYPE;
-use vxcat_core::{MemSink, MemStore, StoreError};
+use vxcat_store::{MemSink, MemStore, StoreError};
 
 // The status where this call of the store fails, counted from 1.
 fn status_at(command: &Command<'_>, call: u64) -> u8 {

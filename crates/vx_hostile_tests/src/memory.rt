@@ -10,7 +10,7 @@ use vx_encodings::Encoding;
 use vx_registry::{ArrayContext, ArraySession, Entry, PluginEntry, RegistryError, VortexSession};
 use vx_serde::{ArrayExt, SerializeOptions, WireError};
 use vx_types::{Id, TypeError};
-use vxcat_core::{MemSink, MemStore, StoreError};
+use vxcat_store::{MemSink, MemStore, StoreError};
 
 // Whether the program over a store ends well or with allocation failure, and leaves what its status says. A write of
 // the output whose memory cannot be allocated is a fault.

@@ -3,7 +3,8 @@
 use std::alloc::Global;
 use vx_serde_tests::files::{BLOB, TYPE};
 use vx_types::{Name, TypeError};
-use vxcat_core::{MemSink, MemStore, Store, StoreError, run};
+use vxcat_core::run;
+use vxcat_store::{MemSink, MemStore, Store, StoreError};
 
 /// The files of a store: the worked type, blob and identifiers, the allowed identifiers, and an expression.
 pub(crate) const FILES: [(&str, &[u8]); 5] = [

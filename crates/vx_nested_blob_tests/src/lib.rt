@@ -9,6 +9,8 @@ mod blobs;
 #[cfg(test)]
 mod broken;
 #[cfg(test)]
+mod decimals;
+#[cfg(test)]
 mod deep;
 #[cfg(test)]
 mod dictionaries;

@@ -2,6 +2,8 @@
 #![tactic(auto)]
 
 pub mod asking;
+#[cfg(test)]
+mod counting;
 pub mod named;
 pub mod odd;
 #[cfg(test)]

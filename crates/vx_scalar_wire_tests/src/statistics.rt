@@ -348,7 +348,9 @@ fn greatest_values_are_kept(rt: HostRuntime) {
     are_kept(&rt, rt.alloc(), &GREATEST);
 }
 
-const SUMS: [(Stat, usize, bool, Answer); 8] = [
+const NEGATIVE_INFINITY: Answer = Answer::Number(PValue::F64(0xfff0_0000_0000_0000));
+
+const SUMS: [(Stat, usize, bool, Answer); 9] = [
     // Truths and unsigned integers have unsigned sums.
     (Stat::Sum, 0, true, THREE),
     (Stat::Sum, 3, true, THREE),
@@ -357,6 +359,7 @@ const SUMS: [(Stat, usize, bool, Answer); 8] = [
     (Stat::Sum, 2, true, MINUS_THREE),
     (Stat::Sum, 4, true, FLOAT),
     (Stat::Sum, 6, true, FLOAT),
+    (Stat::Sum, 6, true, NEGATIVE_INFINITY),
     (Stat::Sum, 9, true, DECIMAL),
 ];
 

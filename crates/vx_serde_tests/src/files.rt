@@ -80,3 +80,31 @@ pub const NULL_BLOB: [u8; 144] = [
 
 /// The identifiers of the blob of nulls.
 pub const NULL_IDS: &str = "vortex.null\n";
+
+/// What stands before the nodes of a chain, each of which is the only child of the node before: the place of the root
+/// table, the field table of an array, and the array's table, after which its root stands.
+pub const CHAIN_FRONT: [u8; 18] = [10, 0, 0, 0, 6, 0, 8, 0, 4, 0, 6, 0, 0, 0, 14, 0, 0, 0];
+
+/// A node of a chain: its field table, and the node with the one below it as its only child.
+pub const CHAIN_LEVEL: [u8; 26] = [
+    10, 0, 8, 0, 0, 0, 0, 0, 4, 0, 10, 0, 0, 0, 4, 0, 0, 0, 1, 0, 0, 0, 14, 0, 0, 0,
+];
+
+/// The last node of a chain, which is empty.
+pub const CHAIN_LAST: [u8; 14] = [0, 0, 0, 0, 0, 0, 4, 0, 4, 0, 4, 0, 0, 0];
+
+/// The blob of nulls whose least value has the one byte 255, by another writer.
+pub const NULL_BLOB_OF_LEAST: [u8; 63] = [
+    10, 0, 0, 0, 6, 0, 8, 0, 4, 0, 6, 0, 0, 0, 18, 0, 0, 0, 14, 0, 8, 0, 0, 0, 0, 0, 0, 0, 0, 0, 4,
+    0, 14, 0, 0, 0, 10, 0, 0, 0, 6, 0, 8, 0, 4, 0, 6, 0, 0, 0, 4, 0, 0, 0, 1, 0, 0, 0, 255, 59, 0,
+    0, 0,
+];
+
+/// The blob of the booleans true, false, true, whose least value is told by the message `1802` of a number, by another
+/// writer. The place of that message is 87.
+pub const FLAG_BLOB_OF_LEAST: [u8; 93] = [
+    5, 12, 0, 0, 0, 8, 0, 12, 0, 4, 0, 8, 0, 8, 0, 0, 0, 22, 0, 0, 0, 36, 0, 0, 0, 14, 0, 12, 0, 0,
+    0, 0, 0, 0, 0, 4, 0, 8, 0, 14, 0, 0, 0, 8, 0, 0, 0, 28, 0, 0, 0, 1, 0, 0, 0, 0, 0, 1, 0, 0, 0,
+    0, 0, 0, 0, 1, 0, 0, 0, 6, 0, 8, 0, 4, 0, 6, 0, 0, 0, 4, 0, 0, 0, 2, 0, 0, 0, 24, 2, 88, 0, 0,
+    0,
+];

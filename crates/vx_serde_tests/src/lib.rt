@@ -1,11 +1,13 @@
 //! The tests of the crate `vx_serde`: worked blobs, and what the definitions say of them; blobs read, read node by node
-//! and written again; arrays written; and the texts of refusals.
+//! and written again; messages made by hand; arrays written; and the texts of refusals.
 #![tactic(auto)]
 
 #[cfg(test)]
 mod array_nodes;
 #[cfg(test)]
 mod blobs;
+#[cfg(test)]
+mod by_hand;
 pub mod files;
 pub mod laws;
 #[cfg(test)]

@@ -214,11 +214,12 @@ fn is_summed(alloc: Global, bits: u64, message: &[u8]) -> bool {
     }
 }
 
-// The bits of sums, and their messages: two that are no number, and 3.
-const SUMS: [(u64, &[u8]); 3] = [
+// The bits of sums, and their messages: two that are no number, 3, and the negative infinity.
+const SUMS: [(u64, &[u8]); 4] = [
     (0xfff8_0000_0000_0000, &[0x31, 0, 0, 0, 0, 0, 0, 0xf8, 0x7f]),
     (0x7ff8_0000_dead_beef, &[0x31, 0, 0, 0, 0, 0, 0, 0xf8, 0x7f]),
     (0x4008_0000_0000_0000, &[0x31, 0, 0, 0, 0, 0, 0, 0x08, 0x40]),
+    (0xfff0_0000_0000_0000, &[0x31, 0, 0, 0, 0, 0, 0, 0xf0, 0xff]),
 ];
 
 #[test]

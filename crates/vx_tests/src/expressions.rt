@@ -2,7 +2,7 @@
 
 use crate::program::{ends, holds, prints, store_of_one};
 use std::alloc::{AllocError, Global};
-use vxcat_core::{MemSink, MemStore, StoreError};
+use vxcat_store::{MemSink, MemStore, StoreError};
 
 // A call of a foreign function on the root, with the metadata 1, 2, 3, 4.
 const FOREIGN: &[u8] =

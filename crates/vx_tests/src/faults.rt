@@ -5,7 +5,7 @@ use crate::program::{WORDS, ends, holds, prints, refuses, store_of};
 use std::alloc::Global;
 use vx_serde_tests::files::{BLOB, IDS, TYPE};
 use vx_types::Name;
-use vxcat_core::{DirStore, MemSink, MemStore, Store, StoreError};
+use vxcat_store::{DirStore, MemSink, MemStore, Store, StoreError};
 
 const ALLOWING: [&str; 11] = [
     "recode", "t", "b", "4", "i", "o", "j", "--allow", "f", "--rows", "0",

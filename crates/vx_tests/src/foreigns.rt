@@ -11,7 +11,9 @@ use vx_arrays::{Array, ArrayError, PrimitiveArray};
 use vx_buffer::{BufferHandle, ByteBuffer};
 use vx_registry::ArrayContext;
 use vx_serde::{SerializedArray, WireError};
-use vx_serde_tests::files::{BLOB, EXTENSION_TYPE, IDS, NULL_TYPE, PADDED_BLOB, TYPE};
+use vx_serde_tests::files::{
+    BLOB, CHAIN_FRONT, CHAIN_LAST, CHAIN_LEVEL, EXTENSION_TYPE, IDS, NULL_TYPE, PADDED_BLOB, TYPE,
+};
 use vx_test_arrays::parts::{
     Made, There, both, bytes, dicts, extensions, flags, lists, nulls, structs, two, unions, views,
 };
@@ -179,24 +181,13 @@ fn an_unknown_extension_is_allowed(rt: HostRuntime) {
     assert!(rt; saves_the_same(rt.alloc(), &ALLOWING, &extended("x.y\n"), FOUR_ROWS));
 }
 
-// The place of the root table, the field table of an array, and the array's table, after which its root stands.
-const FRONT: [u8; 18] = [10, 0, 0, 0, 6, 0, 8, 0, 4, 0, 6, 0, 0, 0, 14, 0, 0, 0];
-
-// A node's field table, and the node with the one below it as its only child.
-const LEVEL: [u8; 26] = [
-    10, 0, 8, 0, 0, 0, 0, 0, 4, 0, 10, 0, 0, 0, 4, 0, 0, 0, 1, 0, 0, 0, 14, 0, 0, 0,
-];
-
-// The lowest node, which is empty.
-const LAST: [u8; 14] = [0, 0, 0, 0, 0, 0, 4, 0, 4, 0, 4, 0, 0, 0];
-
 // The blob of a chain of `levels` nodes, without statistics, whose message has this length.
 fn chain(alloc: Global, levels: usize, len: &[u8]) -> Result<Vec<u8>, AllocError> {
-    let mut blob = Vec::from_slice(alloc, &FRONT)?;
+    let mut blob = Vec::from_slice(alloc, &CHAIN_FRONT)?;
     for _ in 1..levels {
-        blob.extend_from_slice(&LEVEL)?;
+        blob.extend_from_slice(&CHAIN_LEVEL)?;
     }
-    blob.extend_from_slice(&LAST)?;
+    blob.extend_from_slice(&CHAIN_LAST)?;
     blob.extend_from_slice(len)?;
     Ok(blob)
 }

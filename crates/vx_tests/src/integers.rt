@@ -8,7 +8,7 @@ use vx_serde_tests::files::{
     BLOB, BLOB_OF_ANOTHER, BLOB_OF_SECOND, EXTENSION_TYPE, IDS, NULL_BLOB, NULL_IDS, NULL_TYPE,
     PADDED_BLOB, TYPE, UTF8_TYPE,
 };
-use vxcat_core::MemStore;
+use vxcat_store::MemStore;
 
 /// The listing of 1, 2, 3, 4.
 pub const LISTING: &str = "vortex.primitive len=4 buffers=[16]\n0: 1\n1: 2\n2: 3\n3: 4\n";
@@ -108,7 +108,7 @@ fn begins_there(alloc: Global, store: &mut MemStore) -> bool {
 }
 
 // The worked files, where the blob has the exponent 16.
-fn store_of_exponent(alloc: Global) -> Result<MemStore, vxcat_core::StoreError> {
+fn store_of_exponent(alloc: Global) -> Result<MemStore, vxcat_store::StoreError> {
     let blob = with_bytes(alloc, &BLOB, &[(158, 16)])?;
     store_of(alloc, &integers(blob.as_slice(), IDS))
 }

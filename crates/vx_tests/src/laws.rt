@@ -1,7 +1,7 @@
 //! What the definitions say of the texts of values.
 
 ghost use Rattle.std.specs.Prelude.{◌≡◌, map};
-ghost use Rattle.vxcat_core.specs.RowText.{value_text};
+ghost use Rattle.vxcat_store.specs.RowText.{value_text};
 ghost use Rattle.vx_tests.specs.Texts.{shown_values};
 
 /// The texts of values of each kind, by their types.

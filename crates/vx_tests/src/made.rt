@@ -2,7 +2,7 @@
 
 use crate::program::{ends, holds, prints};
 use std::alloc::Global;
-use vxcat_core::{MemSink, MemStore, StoreError};
+use vxcat_store::{MemSink, MemStore, StoreError};
 
 const ONE_ROW: [&str; 6] = ["make", "0", "1", "t", "b", "i"];
 

@@ -2,7 +2,8 @@
 
 use std::alloc::Global;
 use vx_types::{Name, TypeError};
-use vxcat_core::{MemSink, MemStore, Store, StoreError, run};
+use vxcat_core::run;
+use vxcat_store::{MemSink, MemStore, Store, StoreError};
 
 /// The words of `recode` on the three files, at four rows.
 pub const WORDS: [&str; 7] = ["recode", "t", "b", "4", "i", "o", "j"];

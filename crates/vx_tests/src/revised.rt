@@ -4,7 +4,7 @@ use crate::integers::{LISTING, files};
 use crate::program::{Files, WORDS, prints, refuses, saves, saves_the_same, store_of};
 use std::alloc::Global;
 use vx_serde_tests::files::{BLOB, IDS, TYPE};
-use vxcat_core::{MemStore, StoreError};
+use vxcat_store::{MemStore, StoreError};
 
 const SECOND: &str = "vortex.primitive.v2\n";
 

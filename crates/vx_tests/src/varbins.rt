@@ -2,7 +2,7 @@
 
 use crate::program::{Files, ends, refuses_changed, saves_the_same, store_of, with_bytes};
 use std::alloc::{AllocError, Global};
-use vxcat_core::{MemSink, MemStore, StoreError};
+use vxcat_store::{MemSink, MemStore, StoreError};
 
 /// The type of texts, not nullable.
 const TYPE: [u8; 44] = [

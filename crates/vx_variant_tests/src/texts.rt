@@ -6,6 +6,23 @@ use std::alloc::{AllocError, Global};
 use vx_scalars::{Scalar, ScalarValue, bare_dtype};
 use vx_types::{DType, Name, PValue};
 
+// A text between two others.
+fn between(alloc: Global, before: &str, text: &str, after: &str) -> Result<String, AllocError> {
+    format!(in alloc; "{before}{text}{after}")
+}
+
+// Appends a text, after a comma and a space if it is not the first, and after its name if it has one.
+fn push(texts: &mut String, name: Option<&Name>, text: &str) -> Result<(), AllocError> {
+    if !texts.is_empty() {
+        texts.push_str(", ")?;
+    }
+    if let Some(name) = name {
+        texts.push_str(name.as_str())?;
+        texts.push_str(": ")?;
+    }
+    texts.push_str(text)
+}
+
 // The text of a value of a type.
 #[cycle(text)]
 #[tactic(auto, using(vx_scalars::proofs::LawsOfLists::decreasing))]
@@ -25,7 +42,7 @@ fn text_of(
         ScalarValue::Variant(scalar) => {
             let inner = scalar.get();
             let text = text_of(alloc, inner.value(), inner.dtype())?;
-            format!(in alloc; "v({text})")
+            between(alloc, "v(", text.as_str(), ")")
         }
         _ => String::from_str(alloc, "other"),
     }
@@ -43,11 +60,11 @@ fn tuple_text(
         DType::Struct(fields, _) => {
             let types = fields.fields().as_slice();
             let texts = field_texts(alloc, values, types, fields.names().as_slice())?;
-            format!(in alloc; "{{{texts}}}")
+            between(alloc, "{", texts.as_str(), "}")
         }
         DType::List(element, _) | DType::FixedSizeList(element, _, _) => {
             let texts = element_texts(alloc, values, element.get())?;
-            format!(in alloc; "[{texts}]")
+            between(alloc, "[", texts.as_str(), "]")
         }
         _ => String::from_str(alloc, "other"),
     }
@@ -65,10 +82,7 @@ fn field_texts(
     let mut texts = String::new(alloc);
     for i in 0..values.len().min(types.len()).min(names.len()) {
         let text = text_of(alloc, values[i].as_ref(), &types[i])?;
-        texts.push_str(if i == 0 { "" } else { ", " })?;
-        texts.push_str(names[i].as_str())?;
-        texts.push_str(": ")?;
-        texts.push_str(text.as_str())?;
+        push(&mut texts, Some(&names[i]), text.as_str())?;
     }
     Ok(texts)
 }
@@ -84,8 +98,7 @@ fn element_texts(
     let mut texts = String::new(alloc);
     for i in 0..values.len() {
         let text = text_of(alloc, values[i].as_ref(), dtype)?;
-        texts.push_str(if i == 0 { "" } else { ", " })?;
-        texts.push_str(text.as_str())?;
+        push(&mut texts, None, text.as_str())?;
     }
     Ok(texts)
 }

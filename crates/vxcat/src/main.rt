@@ -5,7 +5,8 @@ use std::alloc::Global;
 use std::process::ExitCode;
 use std::{env, io};
 use vx_types::{Name, TypeError};
-use vxcat_core::{DirStore, Output, run};
+use vxcat_core::run;
+use vxcat_store::{DirStore, Output};
 
 // The status for an allocation that failed while the words are read.
 const OUT_OF_MEMORY: u8 = 1;

@@ -1,11 +1,11 @@
 -- The commands of the program, a case for each line of the table; every definition here goes by these cases.
 use Rattle.std.specs.Prelude.{ℕ, List}
-use Rattle.vxcat_core.specs.declared.status.Status.{Status}
-use Rattle.vxcat_core.specs.ExprCommand.{CanEndExpr, EndsExpr, InvokesExpr}
-use Rattle.vxcat_core.specs.MakeCommand.{CanEndMake, EndsMake, InvokesMake, Make}
-use Rattle.vxcat_core.specs.Recode.{CanEndRecode, EndsRecode, InvokesRecode, Recode}
-use Rattle.vxcat_core.specs.RunState.{Run}
-use Rattle.vxcat_core.specs.StoreState.{StoreState}
+use Rattle.vxcat_store.specs.declared.status.Status.{Status}
+use Rattle.vxcat_blobs.specs.ExprCommand.{CanEndExpr, EndsExpr, InvokesExpr}
+use Rattle.vxcat_blobs.specs.MakeCommand.{CanEndMake, EndsMake, InvokesMake, Make}
+use Rattle.vxcat_blobs.specs.Recode.{CanEndRecode, EndsRecode, InvokesRecode, Recode}
+use Rattle.vxcat_store.specs.RunState.{Run}
+use Rattle.vxcat_store.specs.StoreState.{StoreState}
 
 -- A command with what its words name.
 pub data Command : Type 0 where

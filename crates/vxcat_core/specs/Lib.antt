@@ -1,19 +1,4 @@
 pub mod Commands
-pub mod ExprCommand
-pub mod IdFile
-pub mod Listing
-pub mod MakeCommand
-pub mod Options
 pub mod Outcome
-pub mod Recode
-pub mod RowText
-pub mod RunState
-pub mod SinkState
-pub mod Status
-pub mod StoreState
-pub mod Written
 -- What only the contracts of private functions cite.
-pub mod GivenOptions
-pub mod MakeViews
-pub mod RecodeViews
-pub mod Statuses
+pub mod CommandViews

@@ -1,11 +1,11 @@
 -- How a run of the program ends, and what stands afterwards.
 use Rattle.std.specs.Prelude.{◌≡◌, ℕ, List}
-use Rattle.vxcat_core.specs.declared.status.Status.{Status}
-use Rattle.vxcat_core.specs.declared.status.Status.TheVariants.{NoCommand}
+use Rattle.vxcat_store.specs.declared.status.Status.{Status}
+use Rattle.vxcat_store.specs.declared.status.Status.TheVariants.{NoCommand}
 use Rattle.vxcat_core.specs.Commands.{CanEnd, Command, Ends, Invokes}
-use Rattle.vxcat_core.specs.RunState.{IsUntouched, Run}
-use Rattle.vxcat_core.specs.Status.{status_number}
-use Rattle.vxcat_core.specs.StoreState.{StoreState}
+use Rattle.vxcat_store.specs.RunState.{IsUntouched, Run}
+use Rattle.vxcat_store.specs.Status.{status_number}
+use Rattle.vxcat_store.specs.StoreState.{StoreState}
 
 -- How a run ends: at 2 the words invoke no command, and nothing is saved or printed; else they invoke one, and it ends
 -- with the status.

@@ -3,16 +3,12 @@
 ghost use Rattle.std.specs.Prelude.{◌≡◌, ◌⊎◌, ◌↔◌};
 ghost use Rattle.vxcat_core.specs.Commands.{Command, Invokes};
 ghost use Rattle.vxcat_core.specs.Outcome.{CanRun, HasOutcome};
-ghost use Rattle.vxcat_core.specs.RunState.{HasNoFault, run_of};
+ghost use Rattle.vxcat_store.specs.RunState.{HasNoFault, run_of};
 
-use crate::expr::{parse_expr, run_expr};
-use crate::make::{parse_make, run_make};
-use crate::recode::{parse_recode, run_recode};
-use crate::sink::Sink;
-use crate::status::Status;
-use crate::store::Store;
+use crate::commands::{parse_command, run_command};
 use std::alloc::Global;
 use vx_types::Name;
+use vxcat_store::{Sink, Status, Store};
 
 /// Runs the command that the words invoke, and returns the exit status of the program.
 ///
@@ -28,14 +24,8 @@ pub fn run<S: Store, O: Sink>(alloc: Global, words: &[Name], store: &mut S, out:
         → HasNoFault (run_of (S.state store.old) (S.state store.new) (O.state out.old) (O.state out.new))
         → (result ≡ 0) ⊎ (result ≡ 1) }
 {
-    match parse_recode(words) {
-        Some(words) => run_recode(alloc, &words, store, out).number(),
-        None => match parse_expr(words) {
-            Some(file) => run_expr(alloc, file, store, out).number(),
-            None => match parse_make(words) {
-                Some(words) => run_make(alloc, &words, store, out).number(),
-                None => Status::NoCommand.number(),
-            },
-        },
+    match parse_command(words) {
+        Some(command) => run_command(alloc, &command, store, out).number(),
+        None => Status::NoCommand.number(),
     }
 }

@@ -1,0 +1,9 @@
+pub mod IdFile
+pub mod Listing
+pub mod RowText
+pub mod RunState
+pub mod SinkState
+pub mod Status
+pub mod Statuses
+pub mod StoreState
+pub mod Written
