@@ -340,7 +340,7 @@ fn what_is_built_of_is_handed_on(rt: HostRuntime) {
 fn allows_unknown(alloc: Global) -> (bool, bool) {
     let mut session = VortexSession::new(ArraySession::empty(alloc), ExtSession::new(alloc));
     let first = session.allows_unknown();
-    session.ext.allow_unknown();
+    session.allow_unknown();
     let then = session.allows_unknown();
     drop(session);
     (first, then)

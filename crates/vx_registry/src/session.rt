@@ -1,6 +1,6 @@
 //! Sessions: what reads and writes arrays, and what reads extension types.
 
-ghost use Rattle.std.specs.Prelude.{◌≡◌, ◌∷◌, [], ℕ, List, None, length, slice_get, option_copied, option_and_then, IfSome, IsSome, IfOk, IfErr, OnOk, OnErr, IsOkUnless};
+ghost use Rattle.std.specs.Prelude.{◌≡◌, ◌∷◌, [], ℕ, List, None, length, slice_get, option_copied, option_and_then, true, IfSome, IsSome, IfOk, IfErr, OnOk, OnErr, IsOkUnless};
 ghost use Rattle.vx_types.specs.Known.{ExtMeaning};
 ghost use Rattle.vx_type_wire.specs.Session.{ext_meaning};
 ghost use Rattle.vx_wire_tree.specs.Session.{IsPaired, HasPairedPlugins, entry_id, revised as revised_reader, plugin as plugin_reader};
@@ -249,8 +249,17 @@ impl VortexSession {
         VortexSession { arrays, ext }
     }
 
-    /// Whether extension types and nodes that nothing is registered for are allowed. The flag is that of `ext`, and
-    /// `allow_unknown` sets it there.
+    /// Allows extension types and nodes that nothing is registered for, from now on. The flag is that of `ext`.
+    pub fn allow_unknown(&mut self)
+        ensures arrays { self.new.arrays ≡ self.old.arrays }
+        ensures readers { (id : List ℕ) → (ext_meaning (λ b. accepted (b.vtable, b.value)) self.new.ext).reader id
+            ≡ (ext_meaning (λ b. accepted (b.vtable, b.value)) self.old.ext).reader id }
+        ensures unknown { (ext_meaning (λ b. accepted (b.vtable, b.value)) self.new.ext).unknown ≡ true }
+    {
+        self.ext.unknown = true;
+    }
+
+    /// Whether extension types and nodes that nothing is registered for are allowed.
     pub fn allows_unknown(&self) -> bool
         ensures { result ≡ (ext_meaning (λ b. accepted (b.vtable, b.value)) self.now.ext).unknown }
     {
