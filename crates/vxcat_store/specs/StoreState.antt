@@ -1,5 +1,5 @@
 -- What contracts see of a store.
-use Rattle.std.specs.Prelude.{◌≡◌, ℕ, ◌+◌, ◌-◌, ◌^◌, ◌≤◌, min, Bool, IsTrue, Option, Some, List, ◌++◌, Contains}
+use Rattle.std.specs.Prelude.{◌≡◌, ℕ, ◌+◌, ◌-◌, ◌^◌, ◌≤◌, min, Bool, false, IsTrue, Option, None, Some, List, [], ◌++◌, Contains}
 use Rattle.std.specs.List.{AllByRecursion}
 
 -- A store is seen as whether it tells what stands at its names, what stands at each name, the names that it was asked
@@ -10,6 +10,10 @@ pub record StoreState : Type 0 where
   pub asked : List (List ℕ)
   pub load_faults : ℕ
   pub save_faults : ℕ
+
+-- A store that tells nothing, of which nothing was asked and nothing failed.
+abbrev pub untold : StoreState
+untold = record { tells = false; file = λ name. None; asked = []; load_faults = 0; save_faults = 0 }
 
 -- A count of faults has risen; a count of 2^64 - 1 cannot rise further, and counts as risen.
 abbrev pub HasRisen : ℕ → ℕ → Type 0

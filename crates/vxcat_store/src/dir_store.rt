@@ -1,6 +1,7 @@
 //! The real files, as a store.
 
-ghost use Rattle.std.specs.Prelude.{◌≡◌, ◌≤◌, ◌+◌, ◌-◌, ◌^◌, [], min, IsOk, IsErr, IsErrOf};
+ghost use Rattle.std.specs.Prelude.{◌≡◌, ◌≤◌, ◌+◌, ◌-◌, ◌^◌, min, IsOk, IsErr, IsErrOf};
+ghost use Rattle.vxcat_store.specs.StoreState.{untold};
 ghost use Rattle.vxcat_store.specs.declared.store.StoreError.TheVariants as store_error;
 
 use crate::store::{Store, StoreError};
@@ -30,9 +31,9 @@ pub struct DirStore<'a, R: Files> {
 }
 
 impl<'a, R: Files> DirStore<'a, R> {
-    /// A store that no name was asked of. It takes no memory.
+    /// A store that no name was asked of, without a fault so far. It takes no memory.
     pub fn new(alloc: Global, files: &'a R) -> DirStore<'a, R>
-        ensures { (⟦<DirStore<'a, R> as Store>⟧.state result).asked ≡ [] }
+        ensures { ⟦<DirStore<'a, R> as Store>⟧.state result ≡ untold }
     {
         DirStore {
             files,
