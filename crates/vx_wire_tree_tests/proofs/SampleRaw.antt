@@ -80,6 +80,7 @@ matched = (
       record { kept = record { id = codes "x.new"; metadata = 7 ∷ []; buffers = three 3 ∷ [] }; body = refl; id = refl; metadata = refl; buffers = refl },
       ((record { kept = record { id = name; metadata = []; buffers = values ∷ [] }; body = refl; id = refl; metadata = refl; buffers = refl }, refl), refl),
     ),
+    (record { stats = refl; children = (record { encoding = refl; dtype = refl; len = refl }, tt) }, ((record { stats = refl; children = tt }, tt), tt)),
   ),
 )
 
@@ -104,6 +105,7 @@ root_matches = (
       record { kept = record { id = codes "x.y"; metadata = 170 ∷ []; buffers = [] }; body = refl; id = refl; metadata = refl; buffers = refl },
       ((record { kept = record { id = name; metadata = []; buffers = values ∷ [] }; body = refl; id = refl; metadata = refl; buffers = refl }, refl), refl),
     ),
+    (record { stats = refl; children = (record { encoding = refl; dtype = refl; len = refl }, tt) }, ((record { stats = refl; children = tt }, tt), tt)),
   ),
 )
 

@@ -75,7 +75,7 @@ variants_node metadata ws = node (record { id = Some (codes "vortex.variant"); m
 -- ---- what is decoded
 
 core_matches : (d : Typ) → Matches (codec d) (session true) core_node (unknown_rows (variant_type Nullable))
-core_matches d = (codes "x.core", refl, (refl, (record { kept = record { id = codes "x.core"; metadata = []; buffers = [] }; body = refl; id = refl; metadata = refl; buffers = refl }, refl)))
+core_matches d = (codes "x.core", refl, (refl, (record { kept = record { id = codes "x.core"; metadata = []; buffers = [] }; body = refl; id = refl; metadata = refl; buffers = refl }, refl), (record { stats = refl; children = tt }, tt)))
 
 bare_matches : (d : Typ) → Matches (codec d) (session true) (variants_node [] end) (variants [])
 bare_matches d = (
