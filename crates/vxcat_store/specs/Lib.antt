@@ -1,5 +1,6 @@
 pub mod IdFile
 pub mod Listing
+pub mod MemCalls
 pub mod RowText
 pub mod RunState
 pub mod SinkState

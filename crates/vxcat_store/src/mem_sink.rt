@@ -1,6 +1,8 @@
 //! Text in memory, as a sink.
 
-ghost use Rattle.std.specs.Prelude.{◌≡◌, ◌<◌, [], Some};
+ghost use Rattle.std.specs.Prelude.{◌≡◌, ◌<◌, ◌≤◌, [], length, Some, IfOk, IsErr, OnOk, OnErr};
+ghost use Rattle.std.specs.Io.KnownBytes.{WriteAppends};
+ghost use Rattle.vxcat_store.specs.StoreState.{HasRisen};
 
 use crate::sink::{Sink, SinkError};
 use std::alloc::Global;
@@ -17,16 +19,22 @@ pub struct MemSink {
 }
 
 impl MemSink {
+    ghost use Rattle.vxcat_store.specs.MemCalls.{most_taken, failing_write, writes_made};
+
     /// A sink of which every write takes its whole piece.
     pub fn new(alloc: Global) -> MemSink
-        ensures { ⟦<MemSink as Sink>⟧.state result ≡ record { written = Some []; faults = 0 } }
+        ensures state { ⟦<MemSink as Sink>⟧.state result ≡ record { written = Some []; faults = 0 } }
+        ensures named { failing_write result ≡ 0 }
+        ensures writes { writes_made result ≡ 0 }
     {
         MemSink::failing(alloc, 0)
     }
 
     /// A sink of which the write of this number, counted from 1, fails, and no other.
     pub fn failing(alloc: Global, number: u64) -> MemSink
-        ensures { ⟦<MemSink as Sink>⟧.state result ≡ record { written = Some []; faults = 0 } }
+        ensures state { ⟦<MemSink as Sink>⟧.state result ≡ record { written = Some []; faults = 0 } }
+        ensures named { failing_write result ≡ number }
+        ensures writes { writes_made result ≡ 0 }
     {
         MemSink {
             text: Vec::new(alloc),
@@ -40,7 +48,10 @@ impl MemSink {
     /// The same sink, of which a write takes at most `most` bytes.
     pub fn taking(self, most: usize) -> MemSink
         requires { 0 < most }
-        ensures { ⟦<MemSink as Sink>⟧.state result ≡ ⟦<MemSink as Sink>⟧.state self }
+        ensures state { ⟦<MemSink as Sink>⟧.state result ≡ ⟦<MemSink as Sink>⟧.state self }
+        ensures most { most_taken result ≡ most }
+        ensures named { failing_write result ≡ failing_write self }
+        ensures writes { writes_made result ≡ writes_made self }
     {
         let MemSink {
             text,
@@ -68,11 +79,27 @@ impl MemSink {
 
 /// A write whose memory cannot be allocated is a fault.
 impl Sink for MemSink {
+    ghost use Rattle.vxcat_store.specs.MemCalls.{most_taken, failing_write, writes_made, next_call};
     ghost use Rattle.std.specs.Prelude.{Some};
 
     ghost state = { λ s. record { written = Some s.text.items; faults = s.faults } };
 
-    fn write(&mut self, piece: &[u8]) -> Result<usize, SinkError> {
+    fn write(&mut self, piece: &[u8]) -> Result<usize, SinkError>
+        requires { 0 < length piece.now }
+        ensures some { IfOk result (λ taken. 0 < taken) }
+        ensures within { IfOk result (λ taken. taken ≤ length piece.now) }
+        ensures written { WriteAppends (⟦<MemSink as Sink>⟧.state self.old).written (⟦<MemSink as Sink>⟧.state self.new).written result piece.now }
+        ensures never_decreases { (⟦<MemSink as Sink>⟧.state self.old).faults ≤ (⟦<MemSink as Sink>⟧.state self.new).faults }
+        ensures no_fault { OnOk result ((⟦<MemSink as Sink>⟧.state self.new).faults ≡ (⟦<MemSink as Sink>⟧.state self.old).faults) }
+        ensures fault { OnErr result (HasRisen (⟦<MemSink as Sink>⟧.state self.old).faults (⟦<MemSink as Sink>⟧.state self.new).faults) }
+
+        // A write of the named number fails, and another takes at most so many bytes.
+        ensures at_most { IfOk result (λ taken. taken ≤ most_taken self.old) }
+        ensures most { most_taken self.new ≡ most_taken self.old }
+        ensures named { failing_write self.new ≡ failing_write self.old }
+        ensures writes { writes_made self.new ≡ next_call (writes_made self.old) }
+        ensures fails { next_call (writes_made self.old) ≡ failing_write self.old → IsErr result }
+    {
         self.writes = self.writes.saturating_add(1);
         let taken = piece.len().min(self.most);
         if self.writes != self.failing && self.text.extend_from_slice(&piece[..taken]).is_ok() {

@@ -1,7 +1,9 @@
 //! Files in memory, as a store.
 
-ghost use Rattle.std.specs.Prelude.{◌≡◌, ◌≢◌, ◌≤◌, ◌⊎◌, ℕ, List, [], ◌∷◌, ◌++◌, Some, None, IsTrue, IfOk, OnOk, OnErr, IsOkUnless, IsErrOf};
+ghost use Rattle.std.specs.Prelude.{◌≡◌, ◌≢◌, ◌≤◌, ◌⊎◌, ℕ, List, [], ◌∷◌, ◌++◌, ◌==◌, Some, None, IsTrue, IsErr, IfOk, OnOk, OnErr, IsOkUnless, IsErrOf};
 ghost use Rattle.std.specs.Option.{option_copied};
+ghost use Rattle.std.specs.List.{list_any};
+ghost use Rattle.vxcat_store.specs.MemCalls.{named_calls, calls_made, next_call, FailsNext};
 ghost use Rattle.vxcat_store.specs.StoreState.{HasRisen};
 
 use crate::store::{Store, StoreError};
@@ -28,6 +30,8 @@ impl MemStore {
         ensures asked { (⟦<MemStore as Store>⟧.state result).asked ≡ [] }
         ensures load_faults { (⟦<MemStore as Store>⟧.state result).load_faults ≡ 0 }
         ensures save_faults { (⟦<MemStore as Store>⟧.state result).save_faults ≡ 0 }
+        ensures named { named_calls result ≡ [] }
+        ensures calls { calls_made result ≡ 0 }
     {
         MemStore {
             files: BTreeMap::new(alloc),
@@ -45,6 +49,9 @@ impl MemStore {
     /// `OutOfMemory` alone.
     pub fn fail_call(&mut self, number: u64) -> Result<(), StoreError>
         ensures unchanged { ⟦<MemStore as Store>⟧.state self.new ≡ ⟦<MemStore as Store>⟧.state self.old }
+        ensures named { OnOk result (named_calls self.new ≡ named_calls self.old ++ number ∷ []) }
+        ensures kept { OnErr result (named_calls self.new ≡ named_calls self.old) }
+        ensures calls { calls_made self.new ≡ calls_made self.old }
         ensures err { IsOkUnless result StoreError.OutOfMemory }
     {
         self.failing.push(number)?;
@@ -81,7 +88,8 @@ impl MemStore {
 
     // Counts a call, and returns whether it fails.
     fn next_call_fails(&mut self) -> bool
-        ensures { self.new ≡ record self.old { calls = self.new.calls } }
+        ensures fails { result ≡ list_any (λ number. number == next_call self.old.calls) self.old.failing.items }
+        ensures counted { self.new ≡ record self.old { calls = next_call self.old.calls } }
     {
         self.calls = self.calls.saturating_add(1);
         self.failing.contains(&self.calls)
@@ -113,19 +121,32 @@ impl Store for MemStore {
         ensures no_memory { IsErrOf result StoreError.OutOfMemory → (⟦<MemStore as Store>⟧.state self.new).load_faults ≡ (⟦<MemStore as Store>⟧.state self.old).load_faults }
         ensures fault { IsErrOf result StoreError.Failed
             → HasRisen (⟦<MemStore as Store>⟧.state self.old).load_faults (⟦<MemStore as Store>⟧.state self.new).load_faults }
+
+        // The call is counted. It fails where its number was named or nothing stands at the name, unless allocation
+        // fails.
+        ensures named { named_calls self.new ≡ named_calls self.old }
+        ensures calls { calls_made self.new ≡ next_call (calls_made self.old) }
+        ensures fails { FailsNext self.old ⊎ ((⟦<MemStore as Store>⟧.state self.old).file name.now ≡ None) → IsErr result }
+        ensures cause { IsErrOf result StoreError.Failed
+            → FailsNext self.old ⊎ ((⟦<MemStore as Store>⟧.state self.old).file name.now ≡ None) }
     {
+        let fails = self.next_call_fails();
         let asked = name.clone(alloc).map_err(|_| StoreError::OutOfMemory)?;
         self.asked.push(asked)?;
-        if !self.next_call_fails()
-            && let Some(bytes) = self.files.get(name.as_str())
-        {
-            let blob = Blob::copy_from(alloc, bytes.as_slice()).map_err(
-                |_| StoreError::OutOfMemory,
-            )?;
-            return Ok(blob);
+        if fails {
+            self.load_faults = self.load_faults.saturating_add(1);
+            return Err(StoreError::Failed);
         }
-        self.load_faults = self.load_faults.saturating_add(1);
-        Err(StoreError::Failed)
+        match self.get(name.as_str()) {
+            Some(bytes) => match Blob::copy_from(alloc, bytes) {
+                Ok(blob) => Ok(blob),
+                Err(_) => Err(StoreError::OutOfMemory),
+            },
+            None => {
+                self.load_faults = self.load_faults.saturating_add(1);
+                Err(StoreError::Failed)
+            }
+        }
     }
 
     /// Puts the file at the name. A refused save changes no file, and allocation failure counts no fault.
@@ -140,6 +161,12 @@ impl Store for MemStore {
         ensures no_memory { IsErrOf result StoreError.OutOfMemory → (⟦<MemStore as Store>⟧.state self.new).save_faults ≡ (⟦<MemStore as Store>⟧.state self.old).save_faults }
         ensures fault { IsErrOf result StoreError.Failed
             → HasRisen (⟦<MemStore as Store>⟧.state self.old).save_faults (⟦<MemStore as Store>⟧.state self.new).save_faults }
+
+        // The call is counted. It fails exactly where its number was named, unless allocation fails.
+        ensures named { named_calls self.new ≡ named_calls self.old }
+        ensures calls { calls_made self.new ≡ next_call (calls_made self.old) }
+        ensures fails { FailsNext self.old → IsErrOf result StoreError.Failed }
+        ensures cause { IsErrOf result StoreError.Failed → FailsNext self.old }
     {
         if self.next_call_fails() {
             self.save_faults = self.save_faults.saturating_add(1);
