@@ -1,6 +1,7 @@
 -- The statuses of the program, and their numbers.
 use Rattle.std.specs.Prelude.{ℕ}
 use Rattle.vx_serialized.specs.Errors.{error_number}
+use Rattle.vx_serialized.specs.Refusals.{wire_error}
 use Rattle.vxcat_store.specs.declared.status.Status.{Status}
 use Rattle.vxcat_store.specs.declared.status.Status.TheVariants.{Done, OutOfMemory, NoCommand, LoadFault, SaveFault, WriteFault, BadType, BadIds, BadExpression, Refused}
 
