@@ -1,5 +1,5 @@
 -- The command `make`: its words, what it makes, saves and prints, and how it ends.
-use Rattle.std.specs.Prelude.{◌≡◌, ◌≢◌, ◌⊎◌, ◌<◌, ◌≤◌, ◌^◌, ℕ, false, IsTrue, None, Some, List, [], ◌∷◌, codes, decimal}
+use Rattle.std.specs.Prelude.{◌≡◌, ◌≢◌, ◌⊎◌, ◌<◌, ◌≤◌, ◌^◌, ℕ, IsTrue, None, Some, List, [], ◌∷◌, codes, decimal}
 use Rattle.std.specs.Io.KnownBytes.{Keeps}
 use Rattle.vx_flat.specs.Layout.{written_layout}
 use Rattle.vx_trees.specs.Rose.{label}

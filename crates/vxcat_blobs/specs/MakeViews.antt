@@ -1,13 +1,10 @@
 -- What contracts see of the words of `make`, and of what it holds while it runs.
-use Rattle.std.specs.Prelude.{◌≡◌, ◌≤◌, ℕ, None, Some, List, string_bytes}
+use Rattle.std.specs.Prelude.{◌≡◌, ◌≤◌, ℕ, List, string_bytes}
 use Rattle.vx_buffer.specs.Buffer.{Buffer}
 use Rattle.vx_buffer.specs.Joined.{joined}
-use Rattle.vx_trees.specs.Rose.{label}
 use Rattle.vx_array_tree.specs.Tree.{Tree}
-use Rattle.vx_wire_tree.specs.Context.{Context, grown}
-use Rattle.vx_encodings.specs.Messages.{codec}
+use Rattle.vx_wire_tree.specs.Context.{Context}
 use Rattle.vx_serde.specs.Serializing.{IsSerialized}
-use Rattle.vx_serde.specs.Spells.{Spells, blob_of}
 use Rattle.vx_generator.specs.Made.{made}
 use Rattle.vx_generator.specs.Summary.{summary}
 use Rattle.vxcat_blobs.specs.declared.make.words.MakeWords.{MakeWords}

@@ -1,9 +1,5 @@
 -- What contracts see of the words of a command, and of what the program holds while it runs.
-use Rattle.std.specs.Prelude.{◌≡◌, ℕ, List}
-use Rattle.vx_types.specs.Typ.{Typ}
-use Rattle.vx_wire_tree.specs.Context.{Context}
-use Rattle.vx_wire_tree.specs.Session.{SessionMeaning}
-use Rattle.vx_serde.specs.declared.options.SerializeOptions.{SerializeOptions}
+use Rattle.std.specs.Prelude.{◌≡◌}
 use Rattle.vx_serde.specs.Causes.{Refuses}
 use Rattle.vx_serde.specs.Recoding.{IsFaithful, IsRecoded, Product}
 use Rattle.vx_serde.specs.Request.{Request}

@@ -12,8 +12,8 @@ mod words;
 use crate::options::Options;
 use std::alloc::Global;
 use steps::{load_inputs, recode_inputs, save_outputs};
-use vxcat_store::{Sink, Status, Store, print_listing};
 pub use steps::{Outputs, recode_buffer, serialize_options};
+use vxcat_store::{Sink, Status, Store, print_listing};
 pub use words::{RecodeWords, parse_recode};
 
 // The number of rows of a listing without `--rows`.

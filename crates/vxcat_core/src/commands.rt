@@ -7,8 +7,9 @@ ghost use Rattle.vxcat_core.specs.CommandViews.{IsInvoked, command_of};
 
 use std::alloc::Global;
 use vx_types::Name;
-use vxcat_blobs::{MakeWords, RecodeWords, parse_expr, parse_make, parse_recode};
-use vxcat_blobs::{run_expr, run_make, run_recode};
+use vxcat_blobs::{
+    MakeWords, RecodeWords, parse_expr, parse_make, parse_recode, run_expr, run_make, run_recode,
+};
 use vxcat_store::{Sink, Status, Store};
 
 /// A command with what its words name.
