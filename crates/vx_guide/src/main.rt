@@ -1,12 +1,15 @@
 //! A guide to the library, as a program: it makes a table of cities, writes it as a blob, looks at the blob without
-//! decoding it, decodes it and prints it; then two blobs are refused. docs/LIBRARY.md walks through it.
+//! decoding it, decodes it and prints it; two blobs are refused; then it writes the table as a column file and loads two of
+//! its columns. docs/LIBRARY.md walks through it.
 #![tactic(auto)]
 
 mod cities;
 mod columns;
+mod files;
 mod rows;
 
 use crate::cities::cities;
+use crate::files::tell_file;
 use crate::rows::print_rows;
 use anyhow::{Result, bail};
 use duriancards::prelude::{
@@ -131,5 +134,6 @@ fn main(rt: HostRuntime) -> Result<()> {
     let alloc = rt.alloc();
     let session = VortexSession::new(ArraySession::default(alloc)?, ExtSession::new(alloc));
     let table = cities(alloc)?;
-    tell(&rt, alloc, &table, &session)
+    tell(&rt, alloc, &table, &session)?;
+    tell_file(&rt, alloc, &table, &session)
 }

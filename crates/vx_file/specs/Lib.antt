@@ -1,0 +1,15 @@
+pub mod Footer
+pub mod Shows
+pub mod Ranges
+pub mod Selecting
+pub mod FooterReading
+pub mod Within
+pub mod Tables
+pub mod Blobs
+pub mod Spells
+pub mod Written
+pub mod Causes
+pub mod Loading
+pub mod WrittenColumns
+pub mod FooterWriting
+pub mod ColumnsMade
